@@ -1,0 +1,40 @@
+use std::alloc::AllocError;
+
+/// Memory was wanted and not got. It is never merged with another cause.
+#[derive(Clone, Copy, Debug, PartialEq, Eq)]
+pub struct NoMemory;
+
+impl From<AllocError> for NoMemory {
+    fn from(_: AllocError) -> NoMemory {
+        NoMemory
+    }
+}
+
+/// What a synchronisation entry is about.
+#[derive(Clone, Copy, Debug, PartialEq, Eq)]
+pub enum Obj {
+    /// The closing barrier, at which every processor arrives when it halts.
+    Close,
+}
+
+/// One thing that a processor did, with what it was told.
+#[derive(Clone, Copy, Debug, PartialEq, Eq)]
+pub enum Entry {
+    /// It loaded word `w` and was given `v`.
+    Load { w: u32, v: u64 },
+    /// It stored `v` to word `w`.
+    Store { w: u32, v: u64 },
+    /// It made the signal of number `j`, from 0, at the object `o`.
+    Signal { o: Obj, j: u64 },
+    /// It passed the object `o`, behind the signals with numbers below `c`.
+    Pass { o: Obj, c: u64 },
+    /// It printed `v`.
+    Out { v: u64 },
+}
+
+/// Entry `i`, from 0, of processor `p`. Places are ordered by `p`, then `i`.
+#[derive(Clone, Copy, Debug, PartialEq, Eq, PartialOrd, Ord)]
+pub struct Place {
+    pub p: u32,
+    pub i: u64,
+}

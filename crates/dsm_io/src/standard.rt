@@ -1,0 +1,102 @@
+ghost use Rattle.std.specs.Prelude.{◌≡◌, ℕ, ◌<◌, ◌≤◌, None, length, IfOk, OnErr};
+ghost use Rattle.std.specs.Io.KnownBytes.{Keeps, ReadConsumes, WriteAppends};
+ghost use Rattle.dsm_io.specs.Faults.{Rose};
+
+use crate::sink::Sink;
+use crate::source::{Failed, Source};
+use std::io::{Read, Write};
+use std::marker::Model;
+
+/// A source over a reader of std, as standard input. Each error of the reader raises its count of
+/// faults. It tells no bytes.
+#[derive(Drop)]
+pub struct StdSource<T: Read + Drop> {
+    reader: T,
+    faults: u64,
+}
+
+impl<T: Read + Drop> Model for StdSource<T> {
+    ghost use Rattle.std.specs.Prelude.{ℕ};
+
+    ghost Value = { ℕ };
+
+    ghost view = { λ s. s.faults };
+}
+
+impl<T: Read + Drop> StdSource<T> {
+    /// A source over this reader, which hasn't failed yet.
+    pub fn new(reader: T) -> StdSource<T>
+        ensures { result ≡ 0 }
+    {
+        StdSource { reader, faults: 0 }
+    }
+}
+
+impl<T: Read + Drop> Source for StdSource<T> {
+    ghost left = { λ _. None };
+
+    ghost faults = { λ s. s };
+
+    fn read(&mut self, buf: &mut [u8]) -> Result<usize, Failed> {
+        match self.reader.read(buf) {
+            Ok(count) => Ok(count),
+            Err(_) => {
+                self.faults = self.faults.saturating_add(1);
+                Err(Failed)
+            }
+        }
+    }
+}
+
+/// A sink over a writer of std, as standard output. Each error of the writer raises its count of
+/// faults, and so does a write that takes nothing of a piece that is not empty. It tells no bytes.
+#[derive(Drop)]
+pub struct StdSink<T: Write + Drop> {
+    writer: T,
+    faults: u64,
+}
+
+impl<T: Write + Drop> Model for StdSink<T> {
+    ghost use Rattle.std.specs.Prelude.{ℕ};
+
+    ghost Value = { ℕ };
+
+    ghost view = { λ s. s.faults };
+}
+
+impl<T: Write + Drop> StdSink<T> {
+    /// A sink over this writer, which hasn't failed yet.
+    pub fn new(writer: T) -> StdSink<T>
+        ensures { result ≡ 0 }
+    {
+        StdSink { writer, faults: 0 }
+    }
+
+    fn fail(&mut self) -> Failed
+        ensures rose { Rose self.old self.new }
+        ensures counts { self.old ≤ self.new }
+    {
+        self.faults = self.faults.saturating_add(1);
+        Failed
+    }
+}
+
+impl<T: Write + Drop> Sink for StdSink<T> {
+    ghost written = { λ _. None };
+
+    ghost faults = { λ s. s };
+
+    fn write(&mut self, piece: &[u8]) -> Result<usize, Failed> {
+        match self.writer.write(piece) {
+            Ok(count) if count > 0 || piece.is_empty() => Ok(count),
+            _ => Err(self.fail()),
+        }
+    }
+
+    fn finish(&mut self) -> Result<(), Failed> {
+        match self.writer.flush() {
+            Ok(()) => Ok(()),
+            Err(_) => Err(self.fail()),
+        }
+    }
+}

@@ -1,0 +1,6 @@
+// Registers, instructions and code.
+#![tactic(auto)]
+
+pub mod code;
+pub mod instr;
+pub mod reg;

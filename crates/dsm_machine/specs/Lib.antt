@@ -1,0 +1,4 @@
+pub mod Actions
+pub mod Laws
+pub mod Processor
+pub mod Seen

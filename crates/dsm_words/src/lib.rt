@@ -1,0 +1,4 @@
+// Operations on the shared words.
+#![tactic(auto)]
+
+pub mod op;
