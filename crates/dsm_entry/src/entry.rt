@@ -1,4 +1,4 @@
-use std::alloc::AllocError;
+use std::alloc::{AllocError, AllocFailed};
 
 /// Memory was wanted and not got. It is never merged with another cause.
 #[derive(Clone, Copy, Debug, PartialEq, Eq)]
@@ -6,6 +6,12 @@ pub struct NoMemory;
 
 impl From<AllocError> for NoMemory {
     fn from(_: AllocError) -> NoMemory {
+        NoMemory
+    }
+}
+
+impl<T: Drop> From<AllocFailed<T>> for NoMemory {
+    fn from(_: AllocFailed<T>) -> NoMemory {
         NoMemory
     }
 }

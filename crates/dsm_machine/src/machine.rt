@@ -1,4 +1,5 @@
-ghost use Rattle.std.specs.Prelude.{◌≡◌, ◌+◌, ◌<◌, ◌++◌, ◌∷◌, [], None, Some, length, IsOk, OnOk};
+ghost use Rattle.std.specs.Prelude.{◌≡◌, ◌+◌, ◌<◌, ◌≤◌, ◌++◌, ◌∷◌, [], None, Some, length, IfSome, IsOk, OnOk};
+ghost use Rattle.dsm_words.specs.Op.{place_of};
 ghost use Rattle.dsm_local.specs.Local.{moved, given, address};
 ghost use Rattle.dsm_machine.specs.Actions.{GoesOn, action_of, word_at};
 ghost use Rattle.dsm_machine.specs.Processor.{new_processor, next_action, next_op, after_event, events_left};
@@ -76,7 +77,9 @@ impl Machine {
 
     /// The next operation, and None exactly where the machine has ended. It takes no memory.
     pub fn next(&self, code: &Code) -> Option<Op>
-        ensures { result ≡ next_op self.now.words code.now self.now.processor }
+        ensures op { result ≡ next_op self.now.words code.now self.now.processor }
+        // Its place is that of the stop word or of a word of the memory.
+        ensures within { IfSome result (λ op. place_of op ≤ self.now.words) }
     {
         match self.end {
             None => Some(self.next_action(code).op()),

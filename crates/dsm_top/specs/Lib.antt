@@ -1,0 +1,7 @@
+pub mod Account
+pub mod Answer
+pub mod Plans
+pub mod Report
+pub mod Run
+pub mod Text
+pub mod TextFaults

@@ -1,0 +1,33 @@
+ghost use Rattle.std.specs.Prelude.{◌≡◌, ◌<◌, ◌≤◌, ◌^◌, ◌++◌, length};
+ghost use Rattle.dsm_top.specs.Report.{refused_word, refused_line};
+
+use arrayvec::ArrayString;
+use itoa::Buffer;
+
+/// Room for the one line of an answer that refuses.
+pub type Line = ArrayString<64>;
+
+/// The answer to words whose first faulty one has this number. It takes no memory.
+pub fn refuse_word(k: u64) -> Line
+    ensures { result.bytes ≡ refused_word k }
+{
+    let mut line = Line::new();
+    line.push_str("refused word ");
+    line.push_str(Buffer::new().format(k));
+    line.push_str("\n");
+    line
+}
+
+/// The answer to a text that is refused at line `n`, from 1, or 0 for the whole text. It takes no memory.
+pub fn refuse_line(n: u32, kind: &str) -> Line
+    requires { length kind.now ≤ 20 }
+    ensures { result.bytes ≡ refused_line n kind.now }
+{
+    let mut line = Line::new();
+    line.push_str("refused line ");
+    line.push_str(Buffer::new().format(n));
+    line.push_str(" ");
+    line.push_str(kind);
+    line.push_str("\n");
+    line
+}

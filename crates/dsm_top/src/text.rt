@@ -1,0 +1,6 @@
+// The reader of program texts.
+pub mod cutting;
+pub mod fault;
+pub mod instructions;
+pub mod operands;
+pub mod program;
