@@ -1,8 +1,9 @@
 -- Where a text is cut into its lines, and a line into its words.
-use Rattle.std.proofs.Common.{◌≡◌, ◌≢◌, ℕ, zero, suc, ◌+◌, ◌-◌, ◌<◌, ◌≤◌, List, [], ◌∷◌, ◌==◌, true, false, length, get_or, take, drop, refl, sym, ap, ◌∙◌, arith, add-one}
+use Rattle.std.proofs.Common.{inl, inr, Bor, Option, None, Some, is_some, option_copied, ◌≡◌, ◌≢◌, ℕ, zero, suc, ◌+◌, ◌-◌, ◌<◌, ◌≤◌, List, [], ◌∷◌, ◌==◌, true, false, length, get_or, take, drop, refl, sym, ap, ◌∙◌, arith, add-one}
 use Rattle.std.proofs.lemmas.Bool.{ne_eqb, eq-eqb}
+use Rattle.std.proofs.lemmas.Bool.Decides.{eqb_tells}
 use Rattle.std.proofs.lemmas.List.{length-drop, take_all}
-use Rattle.dsm_top.specs.Text.{onto, lines_of, words_of}
+use Rattle.dsm_top.specs.Text.{onto, lines_of, words_of, words_left}
 
 lines_of-feed : (b : ℕ) (bytes : List ℕ) → b ≡ 10 → lines_of (b ∷ bytes) ≡ [] ∷ lines_of bytes
 lines_of-feed b bytes e = rw (eq-eqb b 10 e)
@@ -46,3 +47,20 @@ words_of-none (b ∷ bytes) none =
 -- What stands behind a place is all from the next place on.
 pub behind : (bytes : List ℕ) (at : ℕ) → take (length bytes - (at + 1)) (drop (at + 1) bytes) ≡ drop (suc at) bytes
 behind bytes at = let rest : length (drop (at + 1) bytes) ≤ length bytes - (at + 1) = omega (arith, length-drop (at + 1) bytes) in take_all _ _ rest ∙ ap (λ n. drop n bytes) (add-one at)
+
+onto-some : (b : ℕ) (pieces : List (List ℕ)) → onto b pieces ≡ [] → ⊥
+onto-some b [] e = cc
+onto-some b (piece ∷ pieces) e = cc
+
+-- A line has a word.
+pub words_of-some : (bytes : List ℕ) → words_of bytes ≡ [] → ⊥
+words_of-some [] e = cc
+words_of-some (b ∷ bytes) e = elim (eqb_tells b 32) [
+    inl w ↦ (let first = words_of-space b bytes w.1 in cc)
+  | inr w ↦ onto-some b (words_of bytes) (sym (words_of-other b bytes w.1) ∙ e)
+  ]
+
+-- What stands behind a space has a word.
+pub words_left-some : (rest : Option (Bor (List ℕ))) → true ≡ is_some rest → words_left (option_copied rest) ≡ [] → ⊥
+words_left-some None e none = cc
+words_left-some (Some rest) e none = words_of-some rest.now none

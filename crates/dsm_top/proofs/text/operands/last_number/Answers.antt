@@ -1,9 +1,10 @@
-use Rattle.std.proofs.Common.{rules, ◌≡◌, ℕ, ◌<◌, ◌^◌, List, [], ◌∷◌, decimal, IsTrue, IfSome, IfNone, ◌↔◌, ◌+◌, ◌-◌, ◌*◌, ◌≤◌, length, ◌/◌, ◌%◌, Bool, true, false, nat_eq, nat_lt, ◌++◌, slice_index_or, slice_set, bit_and, bit_or, Fits, w8, w32, w64, Bor, MutBor}
-use Rattle.std.specs.Option.{option_copied}
-use Rattle.dsm_top.specs.Text.{register as register_word}
-use Rattle.dsm_top.specs.Text.{words_left}
+use Rattle.std.proofs.Common.{◌≡◌, List, ap, option_copied}
+use Rattle.dsm_top.specs.Text.{words_of, words_left}
+use Rattle.dsm_top.proofs.Cutting.{words_left-some}
 use Rattle.dsm_top.proofs.text.operands.last_number.Goals as goal
 
--- src/text/operands.rt:54:9
 pub returns-then-is_some-clause-none : goal.returns-then-is_some-clause-none
-returns-then-is_some-clause-none c = ?
+returns-then-is_some-clause-none c = λ n small e.
+    let left : words_left (option_copied c.args.rest) ≡ words_of c.in_ok-rest.field-0.now = ap (λ o. words_left (option_copied o)) c.in_ok-rest.was in
+    let cut = c.first_word.ensures in
+    words_left-some c.first_word.result.1 c.if-is_some.ensures cc

@@ -1,13 +1,19 @@
-use Rattle.std.proofs.Common.{rules, ◌≡◌, ℕ, ◌<◌, ◌^◌, List, [], ◌∷◌, decimal, IsTrue, IfSome, IfNone, ◌↔◌, ◌+◌, ◌-◌, ◌*◌, ◌≤◌, length, ◌/◌, ◌%◌, Bool, true, false, nat_eq, nat_lt, ◌++◌, slice_index_or, slice_set, bit_and, bit_or, Fits, w8, w32, w64, Bor, MutBor}
-use Rattle.std.specs.Option.{option_copied}
-use Rattle.dsm_top.specs.Text.{register as register_word}
-use Rattle.dsm_top.specs.Text.{words_left}
+use Rattle.std.proofs.Common.{◌≡◌, ◌<◌, ◌^◌, ℕ, decimal, ap, ◌∙◌, sym, drop, arith}
+use Rattle.std.proofs.lemmas.Fmt.{decimal_injective}
+use Rattle.dsm_top.proofs.Spelling.{no_value, a_value, none-new}
 use Rattle.dsm_top.proofs.text.operands.register.Goals as goal
 
--- src/text/operands.rt:31:14
 pub returns-in_err-ok-clause-none : goal.returns-in_err-ok-clause-none
-returns-in_err-ok-clause-none c = ?
+returns-in_err-ok-clause-none c = rw c.from_residual-in_err-ok.ensures (λ r small e.
+    let digits : c.in_ok-digits.digits.now ≡ decimal r = c.in_ok-digits.ensures.cases.1 ∙ ap (drop 1) e in
+    let n = c.in_ok-number.field-0 in
+    let same : n ≡ r = decimal_injective n r (omega arith) (omega arith) (sym c.in_ok-number.ensures.some ∙ digits) in
+    no_value c.try_from.result _ n c.try_from.ensures c.in_err-ok.ensures.value (omega arith))
 
--- src/text/operands.rt:25:1
 pub returns-clause-none : goal.returns-clause-none
-returns-clause-none c = ?
+returns-clause-none c = none-new c.new.result _ _ c.new.ensures.some (λ big r small e.
+    let digits : c.in_ok-digits.digits.now ≡ decimal r = c.in_ok-digits.ensures.cases.1 ∙ ap (drop 1) e in
+    let n = c.in_ok-number.field-0 in
+    let same : n ≡ r = decimal_injective n r (omega arith) (omega arith) (sym c.in_ok-number.ensures.some ∙ digits) in
+    let word = a_value c.try_from.result _ n c.in_ok-ok.field-0 c.try_from.ensures c.in_ok-ok.ensures.value in
+    big (omega arith))
