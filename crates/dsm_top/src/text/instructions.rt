@@ -10,6 +10,9 @@ use dsm_isa::instr::Instr;
 /// The most bytes of a line, without its line feed.
 pub const MOST_LINE: usize = 200;
 
+/// The most words that a memory has: one page of them.
+pub const MOST_WORDS: u64 = 256;
+
 /// The instruction that the line is.
 pub fn instruction(line: &[u8]) -> Option<Instr>
     ensures some { IfSome result (λ i. IsInstruction line.now i) }
@@ -41,10 +44,11 @@ pub fn directive(line: &[u8]) -> Option<u32>
     if name != b".words".as_slice() {
         return None;
     }
-    match last_number(rest) {
-        Some(w @ 1..=256) => Some(w as u32),
-        _ => None,
+    let words = last_number(rest)?;
+    if words == 0 || words > MOST_WORDS {
+        return None;
     }
+    Some(words as u32)
 }
 
 fn load_number(rest: Option<&[u8]>) -> Option<Instr>

@@ -1,14 +1,14 @@
-use Rattle.std.proofs.Common.{◌≡◌, ◌<◌, ◌^◌, ℕ, [], ◌∷◌, ap, ◌∙◌, sym, drop, decimal, arith, option_copied}
+use Rattle.std.proofs.Common.{◌≡◌, [], ◌∷◌, ap, ◌∙◌, sym, get_or, arith}
 use Rattle.std.proofs.lemmas.Fmt.{decimal_injective}
-use Rattle.dsm_top.specs.Text.{words_left}
 use Rattle.dsm_top.proofs.text.instructions.directive.Goals as goal
+use Rattle.dsm_top.proofs.text.instructions.directive.Goals.{then-words-eq0-via-then-words-eq0, then-words-eq0-via-else-words-eq0+then-words-gt-MOST_WORDS}
 
-pub returns-in_default-clause-none : goal.returns-in_default-clause-none
-returns-in_default-clause-none c = λ w d.
-    let left : words_left (option_copied c.first_word.result.1) ≡ decimal w ∷ [] = ap (drop 1) (sym c.first_word.ensures ∙ d.words) in let h = c.in_default in
-    ?
-
-pub returns-in_default-2-clause-none : goal.returns-in_default-2-clause-none
-returns-in_default-2-clause-none c = λ w d.
-    let left : words_left (option_copied c.first_word.result.1) ≡ decimal w ∷ [] = ap (drop 1) (sym c.first_word.ensures ∙ d.words) in
-    ?
+pub returns-then-words-eq0-clause-none : goal.returns-then-words-eq0-clause-none
+returns-then-words-eq0-clause-none c = λ w d.
+    let written = ap (λ words. get_or words 1 []) (sym c.first_word.ensures ∙ d.words) in
+    let read = ap (λ words. get_or words 0 []) c.in_ok-words.ensures.some in
+    let same : c.in_ok-words.words ≡ w = decimal_injective c.in_ok-words.words w (omega arith) (omega arith) (sym read ∙ written) in
+    elim c.then-words-eq0.branch [
+        then-words-eq0-via-then-words-eq0 v ↦ omega arith
+      | then-words-eq0-via-else-words-eq0+then-words-gt-MOST_WORDS v ↦ omega arith
+      ]

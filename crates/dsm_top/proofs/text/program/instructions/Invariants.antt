@@ -5,7 +5,7 @@ use Rattle.dsm_top.proofs.text.program.instructions.Given as goal
 -- The lines that were read are the instructions of the list, and the others are left.
 abbrev pub invariant-loop-line : goal.invariant-loop-line
 invariant-loop-line l = record {
-  read : (before : List (List ℕ)) × (lines_of l.fn.others.now ≡ before ++ lines_of l.rest) × AreInstructions before l.list.items;
+  read : (before : List (List ℕ)) × (lines_of l.fn.others ≡ before ++ lines_of l.rest) × AreInstructions before l.list.items;
   most : length l.list.items ≤ 4096;
 }
 
