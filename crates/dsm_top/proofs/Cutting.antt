@@ -56,9 +56,9 @@ onto-some b (piece ∷ pieces) e = cc
 pub words_of-some : (bytes : List ℕ) → words_of bytes ≡ [] → ⊥
 words_of-some [] e = cc
 words_of-some (b ∷ bytes) e = elim (eqb_tells b 32) [
-    inl w ↦ (let first = words_of-space b bytes w.1 in cc)
+  | inl w ↦ (let first = words_of-space b bytes w.1 in cc)
   | inr w ↦ onto-some b (words_of bytes) (sym (words_of-other b bytes w.1) ∙ e)
-  ]
+]
 
 -- What stands behind a space has a word.
 pub words_left-some : (rest : Option (Bor (List ℕ))) → true ≡ is_some rest → words_left (option_copied rest) ≡ [] → ⊥

@@ -1,3 +1,4 @@
 pub mod Cutting
 pub mod Lines
+pub mod Meaning
 pub mod Spelling

@@ -36,14 +36,18 @@ slice_get-next (l ∷ lines) behind line = slice_get-next lines behind line
 
 -- The line behind these, which may not stand there, is the first such one.
 pub RefusesInstruction-next : (lines before behind : List (List ℕ)) (line : List ℕ) (code : List Instr) (f : TextFault) → lines ≡ before ++ (line ∷ behind) → AreInstructions before code → length code ≤ 4096 → (MayStand (suc (length code)) line → ⊥) → f.line ≡ length code + 2 → f.kind ≡ NotYet → RefusesInstruction lines (Refused f)
-RefusesInstruction-next lines before behind line code f cut are most may_not at kind =
-    (length code, line, at, kind,
-      ap (λ l. slice_get l (length code)) cut ∙ ap (slice_get (before ++ (line ∷ behind))) (sym (AreInstructions-length before code are)) ∙ slice_get-next before behind line,
-      may_not,
-      λ k l below e. (omega arith, AreInstructions-at before (line ∷ behind) code k l are below (sym (ap (λ s. slice_get s k) cut) ∙ e)))
+RefusesInstruction-next lines before behind line code f cut are most may_not at kind = (
+  length code,
+  line,
+  at,
+  kind,
+  ap (λ l. slice_get l (length code)) cut ∙ ap (slice_get (before ++ (line ∷ behind))) (sym (AreInstructions-length before code are)) ∙ slice_get-next before behind line,
+  may_not,
+  λ k l below e. (omega arith, AreInstructions-at before (line ∷ behind) code k l are below (sym (ap (λ s. slice_get s k) cut) ∙ e)),
+)
 
 -- The first line is the directive, and each of these lines behind it is an instruction.
-stands-at : (first : List ℕ) (others : List (List ℕ)) (w j : ℕ) → IsDirective first w → ((i : ℕ) (l : List ℕ) → i < j → slice_get others i ≡ Some l → MayStand (suc i) l) → (i : ℕ) (l : List ℕ) → i < suc j → slice_get (first ∷ others) i ≡ Some l → MayStand i l
+pub stands-at : (first : List ℕ) (others : List (List ℕ)) (w j : ℕ) → IsDirective first w → ((i : ℕ) (l : List ℕ) → i < j → slice_get others i ≡ Some l → MayStand (suc i) l) → (i : ℕ) (l : List ℕ) → i < suc j → slice_get (first ∷ others) i ≡ Some l → MayStand i l
 stands-at first others w j d before zero l below e = let same : first ≡ l = cc in (w, subst (λ s. IsDirective s w) same d)
 stands-at first others w j d before (suc i) l below e = before i l (omega arith) e
 

@@ -41,8 +41,8 @@ pub Spells-out : (words : List (List ℕ)) (i : Instr) → Spells (codes "out") 
 Spells-out words (Out r) s = (r, refl, sym (ap (drop 1) s.spelling_is), s.range)
 Spells-out words _ s = absurd (omega (arith, ap second_byte s.spelling_is))
 
-pub Spells-halt : (words : List (List ℕ)) (i : Instr) → Spells (codes "halt") words i → words ≡ []
-Spells-halt words Halt s = sym (ap (drop 1) s.spelling_is)
+pub Spells-halt : (words : List (List ℕ)) (i : Instr) → Spells (codes "halt") words i → (i ≡ Halt) × (words ≡ [])
+Spells-halt words Halt s = (refl, sym (ap (drop 1) s.spelling_is))
 Spells-halt words _ s = absurd (omega (arith, ap second_byte s.spelling_is))
 
 -- what a test of a number answers

@@ -2,5 +2,8 @@
 pub mod cutting;
 pub mod fault;
 pub mod instructions;
+pub mod law;
 pub mod operands;
 pub mod program;
+#[cfg(test)]
+mod tests;

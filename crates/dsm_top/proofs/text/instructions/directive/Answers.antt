@@ -9,6 +9,6 @@ returns-then-words-eq0-clause-none c = λ w d.
     let read = ap (λ words. get_or words 0 []) c.in_ok-words.ensures.some in
     let same : c.in_ok-words.words ≡ w = decimal_injective c.in_ok-words.words w (omega arith) (omega arith) (sym read ∙ written) in
     elim c.then-words-eq0.branch [
-        then-words-eq0-via-then-words-eq0 v ↦ omega arith
+      | then-words-eq0-via-then-words-eq0 v ↦ omega arith
       | then-words-eq0-via-else-words-eq0+then-words-gt-MOST_WORDS v ↦ omega arith
-      ]
+    ]

@@ -13,10 +13,10 @@ returns-in_err-ok-clause-none c =
 pub returns-in_err-n-clause-none : goal.returns-in_err-n-clause-none
 returns-in_err-n-clause-none c =
     rw c.from_residual-in_err-n.ensures (λ n small e.
-      let text = text_read c.from_utf8.result c.args.word.now _ c.in_ok-ok.field-0 c.from_utf8.ensures.cases c.in_ok-ok.ensures.value in
-      let read = parse-decimal 64 n c.in_ok-ok.field-0.now c.parse.result small small (text ∙ e) c.parse.ensures.value.0 in
-      let none = c.in_err-n.ensures.value ∙ ap result_ok read in
-      cc)
+    let text = text_read c.from_utf8.result c.args.word.now _ c.in_ok-ok.field-0 c.from_utf8.ensures.cases c.in_ok-ok.ensures.value in
+    let read = parse-decimal 64 n c.in_ok-ok.field-0.now c.parse.result small small (text ∙ e) c.parse.ensures.value.0 in
+    let none = c.in_err-n.ensures.value ∙ ap result_ok read in
+    cc)
 
 pub returns-else-eq-clause-none : goal.returns-else-eq-clause-none
 returns-else-eq-clause-none c = λ n small e.

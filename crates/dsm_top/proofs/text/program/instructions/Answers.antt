@@ -10,15 +10,15 @@ pub returns-in_default-instruction-clause-fault : goal.returns-in_default-instru
 returns-in_default-instruction-clause-fault c =
     let read = c.loop-line.invariant.read in
     let code = c.loop-line.list.items in
-    let fault : TextFault = record {line = c.len-in_default-instruction.result + 2; kind = NotYet} in
+    let fault : TextFault = record { line = c.len-in_default-instruction.result + 2; kind = NotYet } in
     let at : c.len-in_default-instruction.result + 2 ≡ length code + 2 = omega (arith, c.len-in_default-instruction.ensures, c.loop-line.list.ok.0) in
     let cut = read.1 ∙ ap (λ l. read.0 ++ l) c.in-Some.ensures.lines in
     RefusesInstruction-next (lines_of c.args.others.now) read.0 (lines_of c.in-Some.behind.now) c.in-Some.line.now code fault cut read.2 c.loop-line.invariant.most
-      (λ may. elim c.in_default-instruction.branch [
-          in_default-instruction-via-in-Some-instruction+else-len-lt-MOST w ↦ omega (arith, may.0, w.len.ensures, c.loop-line.list.ok.0)
-        | in_default-instruction-via-in_default-instruction w ↦ w.in_default-instruction.ensures.none may.1.0 may.1.1
-        ])
-      at refl
+    (λ may. elim c.in_default-instruction.branch [
+      | in_default-instruction-via-in-Some-instruction+else-len-lt-MOST w ↦ omega (arith, may.0, w.len.ensures, c.loop-line.list.ok.0)
+      | in_default-instruction-via-in_default-instruction w ↦ w.in_default-instruction.ensures.none may.1.0 may.1.1
+    ])
+    at refl
 
 pub loop-line-preserved : goal.loop-line-preserved
 loop-line-preserved c =
