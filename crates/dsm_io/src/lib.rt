@@ -20,3 +20,6 @@ pub use source::{Failed, Source};
 pub use standard::{StdSink, StdSource};
 pub use sure_source::SureSource;
 pub use writing::write_all;
+
+#[cfg(test)]
+mod tests;

@@ -100,3 +100,57 @@ impl<T: Write + Drop> Sink for StdSink<T> {
         }
     }
 }
+
+#[cfg(test)]
+mod tests {
+    use super::*;
+    use std::io;
+    use std::test::Fail;
+
+    // A reader and writer that always fails.
+    #[derive(Drop)]
+    struct Broken;
+
+    impl Read for Broken {
+        fn read(&mut self, _buf: &mut [u8]) -> io::Result<usize> {
+            Err(io::Error::from(io::ErrorKind::BrokenPipe))
+        }
+    }
+
+    impl Write for Broken {
+        fn write(&mut self, _buf: &[u8]) -> io::Result<usize> {
+            Err(io::Error::from(io::ErrorKind::BrokenPipe))
+        }
+
+        fn flush(&mut self) -> io::Result<()> {
+            Err(io::Error::from(io::ErrorKind::BrokenPipe))
+        }
+    }
+
+    #[test]
+    fn passes_bytes_on(rt: HostRuntime) -> Result<(), Fail> {
+        let bytes = [5u8, 6, 7];
+        let mut source = StdSource::new(bytes.as_slice());
+        let mut buf = [0u8; 2];
+        assert_eq!(rt; source.read(&mut buf), Ok(2));
+        assert_eq!(rt; buf, [5, 6]);
+        assert_eq!(rt; source.read(&mut buf), Ok(1));
+        assert_eq!(rt; source.read(&mut buf), Ok(0));
+        let mut sink = StdSink::new(Vec::new(rt.alloc()));
+        assert_eq!(rt; sink.write(&bytes), Ok(3));
+        assert_eq!(rt; sink.finish(), Ok(()));
+        assert_eq!(rt; sink.writer.as_slice(), bytes.as_slice());
+        Ok(())
+    }
+
+    #[test]
+    fn counts_errors(rt: HostRuntime) {
+        let mut source = StdSource::new(Broken);
+        assert_eq!(rt; source.read(&mut [0u8; 2]), Err(Failed));
+        assert_eq!(rt; source.faults, 1);
+        let mut sink = StdSink::new(Broken);
+        assert_eq!(rt; sink.write(&[5]), Err(Failed));
+        assert_eq!(rt; sink.finish(), Err(Failed));
+        assert_eq!(rt; sink.faults, 2);
+    }
+}
