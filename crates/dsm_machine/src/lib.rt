@@ -4,3 +4,5 @@
 pub mod action;
 pub mod law;
 pub mod machine;
+#[cfg(test)]
+mod tests;
