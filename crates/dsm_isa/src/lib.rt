@@ -4,3 +4,5 @@
 pub mod code;
 pub mod instr;
 pub mod reg;
+#[cfg(test)]
+mod tests;
