@@ -1,5 +1,4 @@
-use Rattle.std.proofs.Common.{◌≡◌, ◌∷◌, ◌++◌, codes, decimal, drop, flat_map, map}
-use Rattle.dsm_top.specs.Report.{line}
+use Rattle.std.proofs.Common.{◌≡◌, ◌∷◌, ◌++◌, decimal, drop, flat_map, map}
 use Rattle.dsm_top.proofs.reporting.write_page.Given as goal
 
 -- the text, with the words that are left, is the whole one
