@@ -1,4 +1,6 @@
 pub mod Cutting
 pub mod Lines
 pub mod Meaning
+pub mod Moments
 pub mod Spelling
+pub mod Words

@@ -1,5 +1,5 @@
 -- What the top call read, and what it wrote.
-use Rattle.std.specs.Prelude.{◌≡◌, ℕ, ◌≤◌, ◌⊎◌, List, [], ◌∷◌, length, codes, Option, Some}
+use Rattle.std.specs.Prelude.{◌≡◌, ℕ, ◌≤◌, ◌⊎◌, List, [], ◌∷◌, length, codes, All, Option, Some}
 use Rattle.std.specs.Io.KnownBytes.{Appends, Consumes, IsAtEnd}
 use Rattle.dsm_isa.specs.declared.instr.Instr.{Instr}
 use Rattle.dsm_entry.specs.declared.entry.Entry.{Entry}
@@ -42,10 +42,13 @@ RefusesText old new line =
 abbrev pub WritesLine : Option (List ℕ) → Option (List ℕ) → ℕ → ℕ → List ℕ → Type 0
 WritesLine old new faults_old faults_new line = Appends old new line ⊎ (Rose faults_old faults_new × AppendsPrefix old new line)
 
+-- the text is refused with a line, which was written
+abbrev pub RefusesAndWrites : Option (List ℕ) → Option (List ℕ) → Option (List ℕ) → Option (List ℕ) → ℕ → ℕ → Type 0
+RefusesAndWrites left_old left_new old new faults_old faults_new = (text : List ℕ) × RefusesText left_old left_new text × WritesLine old new faults_old faults_new text
+
 -- every processor halted
 abbrev pub AllHalted : List (Option End) → Type 0
-AllHalted [] = Unit {0}
-AllHalted (e ∷ ends) = (e ≡ Some Halted) × AllHalted ends
+AllHalted ends = All (λ e. e ≡ Some Halted) ends
 
 -- the one processor trapped at an address above its memory
 abbrev pub TrapsAddress : List (Option End) → Type 0

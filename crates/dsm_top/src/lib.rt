@@ -8,3 +8,4 @@ pub mod refusal;
 pub mod reporting;
 pub mod running;
 pub mod text;
+pub mod top;

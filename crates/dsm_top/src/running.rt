@@ -20,7 +20,7 @@ pub fn run(alloc: Global, program: &Program) -> Result<Ran, NoMemory>
     let mut machine = Machine::new(alloc, 0, program.words);
     while let Some(op) = machine.next(&program.code) {
         machine.ready()?;
-        let got = apply(&mut words, op);
+        let got = apply(words.as_mut_slice(), op);
         machine.after(&program.code, got);
     }
     locality_law();
