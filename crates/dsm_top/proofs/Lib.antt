@@ -4,3 +4,4 @@ pub mod Meaning
 pub mod Moments
 pub mod Spelling
 pub mod Words
+pub mod Ends

@@ -1,5 +1,5 @@
 -- Which words begin a plan's, and which is the first that doesn't.
-use Rattle.std.proofs.Common.{◌≡◌, ℕ, Bool, true, false, IsTrue, Option, sym, ◌∙◌, nat_eq, ◌+◌, ◌-◌, ◌<◌, ◌≤◌, List, [], ◌∷◌, ◌++◌, Some, length, take, arith, refl, ap, inl, inr, slice_get}
+use Rattle.std.proofs.Common.{◌≡◌, ℕ, Bool, true, false, IsTrue, Option, sym, ◌∙◌, nat_eq, drop, subst, take-append-drop, ◌+◌, ◌-◌, ◌<◌, ◌≤◌, List, [], ◌∷◌, ◌++◌, Some, length, take, arith, refl, ap, inl, inr, slice_get}
 use Rattle.std.specs.Cmp.Lexicographic.{pointwise}
 use Rattle.std.specs.Bool.{Decides}
 use Rattle.std.proofs.lemmas.Bool.Decides.{Decides-eqb}
@@ -61,6 +61,11 @@ words-of_plan [] first second short = absurd (cc first)
 words-of_plan (x ∷ []) first second short = absurd (cc second)
 words-of_plan (x ∷ y ∷ []) first second short = cc
 words-of_plan (x ∷ y ∷ z ∷ words) first second short = absurd (omega (arith, short))
+
+-- words with a first fault ask for no plan
+pub none-PlanOf : (words : List (List ℕ)) (k : ℕ) → FirstFault words k → (p : Plan) → PlanOf words p → ⊥
+none-PlanOf words k f p plan =
+    elim f.fault [ inl h ↦ h.1 (drop k words, p, subst (λ w. PlanOf w p) (sym (take-append-drop k words)) plan) | inr h ↦ h.1 p plan ]
 
 -- what stands there is this word exactly where the test says so
 pub found_word : (found word : List ℕ) (r : Bool) → r ≡ pointwise nat_eq found word → (o : Option (List ℕ)) → o ≡ Some found → (IsTrue r → o ≡ Some word) × (o ≡ Some word → IsTrue r)

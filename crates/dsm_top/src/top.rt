@@ -4,7 +4,7 @@ ghost use Rattle.dsm_io.specs.Faults.{Rose};
 ghost use Rattle.dsm_io.specs.Whole.{AppendsPrefix};
 ghost use Rattle.dsm_top.specs.declared.plans.Plan.{Plan as plan_of_words};
 ghost use Rattle.dsm_top.specs.Plans.{texts, PlanOf, FirstFault};
-ghost use Rattle.dsm_top.specs.Report.{report as report_of, refused_word};
+ghost use Rattle.dsm_top.specs.Report.{report as report_of, refused_word, refused_line, kind_name};
 ghost use Rattle.dsm_top.specs.Answer.{Runs, RefusesAndWrites, WritesLine, AllHalted, TrapsAddress};
 
 use crate::planning::plan;
@@ -13,7 +13,7 @@ use crate::ran::Done;
 use crate::refusal::{Line, refuse_line, refuse_word};
 use crate::reporting::report;
 use crate::running::run;
-use crate::text::fault::TextErr;
+use crate::text::fault::{TextErr, TextFault};
 use crate::text::program::read_program;
 use dsm_io::reading::{ReadErr, read_all};
 use dsm_io::sink::Sink;
@@ -72,9 +72,7 @@ pub fn still<S: Source, K: Sink>(
     };
     let program = match read_program(alloc, text.as_slice()) {
         Ok(program) => program,
-        Err(TextErr::Refused(fault)) => {
-            return refuse(sink, &refuse_line(fault.line, fault.kind.name()), 3);
-        }
+        Err(TextErr::Refused(fault)) => return refuse_fault(sink, fault),
         Err(TextErr::NoMemory) => return without_run(6),
     };
     let Ok(ran) = run(alloc, &program) else {
@@ -102,6 +100,15 @@ fn refuse<K: Sink>(sink: &mut K, line: &Line, status: u8) -> Done
 {
     let _ = write_all(sink, line.as_str().as_bytes());
     without_run(status)
+}
+
+/// Writes the line that names the fault of a text.
+fn refuse_fault<K: Sink>(sink: &mut K, fault: TextFault) -> Done
+    ensures status { result.status ≡ 3 }
+    ensures ran { result.ran ≡ None }
+    ensures line { WritesLine (K.written sink.old) (K.written sink.new) (K.faults sink.old) (K.faults sink.new) (refused_line fault.line (kind_name fault.kind)) }
+{
+    refuse(sink, &refuse_line(fault.line, fault.kind.name()), 3)
 }
 
 fn without_run(status: u8) -> Done
