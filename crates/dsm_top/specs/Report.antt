@@ -34,15 +34,15 @@ out_lines p [] = []
 out_lines p (t ∷ traces) = flat_map (out_line p) t ++ out_lines (p + 1) traces
 
 -- the report: the cluster, the ends, what was printed, and the one page with its words
-abbrev pub report : Account → List ℕ
+unfoldable pub report : Account → List ℕ
 report a = line (codes "cashmere") (codes "1x1" ∷ []) ++ end_lines 0 a.ends ++ out_lines 0 a.traces ++ line (codes "page") (codes "0" ∷ map decimal a.pages)
 
 -- the answer to words that ask for no plan: the number of the first faulty one
-abbrev pub refused_word : ℕ → List ℕ
+unfoldable pub refused_word : ℕ → List ℕ
 refused_word k = line (codes "refused") (codes "word" ∷ decimal k ∷ [])
 
 -- the answer to a text that is refused: the line, and what is wrong there
-abbrev pub refused_line : ℕ → List ℕ → List ℕ
+unfoldable pub refused_line : ℕ → List ℕ → List ℕ
 refused_line n kind = line (codes "refused") (codes "line" ∷ decimal n ∷ kind ∷ [])
 
 abbrev pub kind_name : FaultKind → List ℕ

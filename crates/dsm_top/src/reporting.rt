@@ -76,6 +76,7 @@ impl Lines {
 
 /// The report of a run: the cluster, how each processor ended, what each printed, and the words of
 /// the page.
+#[tactic(auto, unfolding(crate::specs::Report::report))]
 pub fn report(alloc: Global, ran: &Ran) -> Result<Vec<u8>, NoMemory>
     ensures { IfOk result (λ text. text.items ≡ report_of ran.now) }
 {
