@@ -11,6 +11,7 @@ use Rattle.dsm_top.specs.Plans.{PlanOf, BeginsPlan, FirstFault}
 -- `sim` and `1x1`
 abbrev sim : List ℕ
 sim = 115 ∷ 105 ∷ 109 ∷ []
+
 abbrev one_by_one : List ℕ
 one_by_one = 49 ∷ 120 ∷ 49 ∷ []
 
@@ -28,7 +29,7 @@ fault-at_first [] other = record { numbered = omega arith; before = (sim ∷ one
 fault-at_first (x ∷ words) other = record {
   numbered = omega arith;
   before = (sim ∷ one_by_one ∷ [], Sim, refl);
-  fault = inl (omega arith, λ b. let same : x ∷ b.0 ≡ sim ∷ one_by_one ∷ [] = PlanOf-same _ b.1 b.2 in let first : x ≡ sim = cc in other (ap Some first))
+  fault = inl (omega arith, λ b. let same : x ∷ b.0 ≡ sim ∷ one_by_one ∷ [] = PlanOf-same _ b.1 b.2 in let first : x ≡ sim = cc in other (ap Some first));
 }
 
 pub fault-at_second : (words : List (List ℕ)) → slice_get words 0 ≡ Some sim → (slice_get words 1 ≡ Some one_by_one → ⊥) → FirstFault words 2
@@ -39,10 +40,10 @@ fault-at_second (x ∷ []) first other =
 fault-at_second (x ∷ y ∷ words) first other =
     let is : x ≡ sim = cc in
     record {
-  numbered = omega arith;
-  before = (one_by_one ∷ [], Sim, ap (λ w. w ∷ one_by_one ∷ []) is);
-  fault = inl (omega arith, λ b. let same : x ∷ y ∷ b.0 ≡ sim ∷ one_by_one ∷ [] = PlanOf-same _ b.1 b.2 in let second : y ≡ one_by_one = cc in other (ap Some second))
-}
+      numbered = omega arith;
+      before = (one_by_one ∷ [], Sim, ap (λ w. w ∷ one_by_one ∷ []) is);
+      fault = inl (omega arith, λ b. let same : x ∷ y ∷ b.0 ≡ sim ∷ one_by_one ∷ [] = PlanOf-same _ b.1 b.2 in let second : y ≡ one_by_one = cc in other (ap Some second));
+    }
 
 pub fault-at_third : (words : List (List ℕ)) → slice_get words 0 ≡ Some sim → slice_get words 1 ≡ Some one_by_one → 2 < length words → FirstFault words 3
 fault-at_third [] first second long = absurd (cc first)
@@ -51,10 +52,10 @@ fault-at_third (x ∷ y ∷ []) first second long = absurd (omega (arith, long))
 fault-at_third (x ∷ y ∷ z ∷ words) first second long =
     let same : x ∷ y ∷ [] ≡ sim ∷ one_by_one ∷ [] = cc in
     record {
-  numbered = omega arith;
-  before = ([], Sim, same);
-  fault = inl (omega arith, λ b. let none : x ∷ y ∷ z ∷ b.0 ≡ sim ∷ one_by_one ∷ [] = PlanOf-same _ b.1 b.2 in cc)
-}
+      numbered = omega arith;
+      before = ([], Sim, same);
+      fault = inl (omega arith, λ b. let none : x ∷ y ∷ z ∷ b.0 ≡ sim ∷ one_by_one ∷ [] = PlanOf-same _ b.1 b.2 in cc);
+    }
 
 pub words-of_plan : (words : List (List ℕ)) → slice_get words 0 ≡ Some sim → slice_get words 1 ≡ Some one_by_one → length words ≤ 2 → words ≡ sim ∷ one_by_one ∷ []
 words-of_plan [] first second short = absurd (cc first)

@@ -21,6 +21,9 @@ use dsm_io::source::Source;
 use dsm_io::writing::write_all;
 use std::alloc::Global;
 
+#[cfg(test)]
+mod tests;
+
 /// The most bytes of a program text.
 pub const MOST_TEXT: usize = 65536;
 

@@ -23,10 +23,10 @@ loop-op-preserved c =
     let got : c.apply-got.result ≡ answer_of old op = c.apply-got.ensures.answer ∙ ap (λ ws. answer_of ws op) c.as_mut_slice.ensures.value in
     let moved : c.after.new.self.processor ≡ after_event size code p (answer_of old op) = c.after.ensures.event ∙ rw (c.ready.ensures.words, sized, c.ready.ensures.processor, got) refl in
     record {
-  reached = (suc there.0, rw (whole, applied, moved) (after-next size code there.0 (record { words = old; processor = p }) op there.1 next));
-  size = c.after.ensures.words ∙ c.ready.ensures.words ∙ sized;
-  room = rw whole (same ∙ c.loop-op.invariant.room)
-}
+      reached = (suc there.0, rw (whole, applied, moved) (after-next size code there.0 (record { words = old; processor = p }) op there.1 next));
+      size = c.after.ensures.words ∙ c.ready.ensures.words ∙ sized;
+      room = rw whole (same ∙ c.loop-op.invariant.room);
+    }
 
 pub returns-clause-ends : goal.returns-clause-ends
 returns-clause-ends c =
@@ -37,9 +37,12 @@ returns-clause-ends c =
     let given = answered size code there.0 in
     let same : p ≡ after_answers size code new_processor given.0 = ap (λ (s : State). s.processor) there.1 ∙ given.1 in
     let ended = end-from_no_op p.end (next_action c.loop-op.machine.words code p) (sym c.next.ensures.op ∙ c.in_default.is) in
-    let local : Local size code p.trace p.end = rw same (c.locality_law.ensures size code given.0) in
-    (p.trace, ended.0, record {
-  trace = rw c.in_ok-traces.ensures.items (ap (λ l. l ∷ []) c.into_trace.ensures);
-  end = c.in_ok-ends.ensures.items ∙ ap (λ e. e ∷ []) (c.end.ensures ∙ ended.1);
-  local = rw ended.1 at local
-})
+    let local : Local size code p.trace p.end = rw same (c.locality_law.ensures size code given.0) in (
+      p.trace,
+      ended.0,
+      record {
+        trace = rw c.in_ok-traces.ensures.items (ap (λ l. l ∷ []) c.into_trace.ensures);
+        end = c.in_ok-ends.ensures.items ∙ ap (λ e. e ∷ []) (c.end.ensures ∙ ended.1);
+        local = rw ended.1 at local;
+      },
+    )

@@ -8,7 +8,7 @@ abbrev pub invariant-loop-op : goal.invariant-loop-op
 invariant-loop-op l = record {
   reached : (n : ℕ) × (record { words = l.words.items; processor = l.machine.processor } ≡ after l.program.words l.program.code n);
   size : l.machine.words ≡ l.program.words;
-  room : length l.words.items ≡ l.program.words + 1
+  room : length l.words.items ≡ l.program.words + 1;
 }
 
 abbrev pub decreases-loop-op : goal.decreases-loop-op
