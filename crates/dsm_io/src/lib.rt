@@ -3,13 +3,13 @@
 
 pub mod memory_sink;
 pub mod memory_source;
-pub mod planned;
+mod planned;
 pub mod reading;
 pub mod sink;
 pub mod source;
 pub mod standard;
 pub mod sure_source;
-pub mod unread;
+mod unread;
 pub mod writing;
 
 pub use memory_sink::MemSink;

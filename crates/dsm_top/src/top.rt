@@ -15,10 +15,7 @@ use crate::reporting::report;
 use crate::running::run;
 use crate::text::fault::{TextErr, TextFault};
 use crate::text::program::read_program;
-use dsm_io::reading::{ReadErr, read_all};
-use dsm_io::sink::Sink;
-use dsm_io::source::Source;
-use dsm_io::writing::write_all;
+use dsm_io::{ReadErr, Sink, Source, read_all, write_all};
 use std::alloc::Global;
 
 #[cfg(test)]

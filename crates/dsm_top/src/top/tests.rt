@@ -1,7 +1,6 @@
 // What the top call reads and writes, over sources and sinks in memory.
 use super::*;
-use dsm_io::memory_sink::MemSink;
-use dsm_io::memory_source::MemSource;
+use dsm_io::{MemSink, MemSource};
 use std::test::Fail;
 
 /// A program that stores 7 to word 2, loads it again and prints it.
