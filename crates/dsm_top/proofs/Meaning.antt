@@ -1,11 +1,11 @@
 -- A text means one thing at most: one program, or one first fault.
-use Rattle.std.proofs.Common.{◌≡◌, ℕ, suc, ◌+◌, ◌-◌, ◌<◌, ◌≤◌, ◌^◌, List, [], ◌∷◌, ◌++◌, Some, length, slice_get, get_or, drop, decimal, refl, sym, ap, ◌∙◌, subst, append-nil, arith}
+use Rattle.std.proofs.Common.{◌≡◌, ℕ, suc, ◌-◌, ◌<◌, List, [], ◌∷◌, length, slice_get, get_or, drop, decimal, refl, sym, ap, ◌∙◌, subst, append-nil, arith}
 use Rattle.std.proofs.lemmas.Fmt.{decimal_injective}
 use Rattle.std.proofs.lemmas.Option.{slice_get_within}
 use Rattle.dsm_isa.specs.declared.instr.Instr.{Instr}
 use Rattle.dsm_isa.specs.declared.instr.Instr.TheVariants.{Li, Ld, St, Out, Halt}
 use Rattle.dsm_top.specs.declared.text.fault.FaultKind.TheVariants.{NotYet, NoCode}
-use Rattle.dsm_top.specs.Text.{lines_of, register, spelling, InRange, Spells, IsInstruction, IsDirective, AreInstructions, StandsFor, MayStand, StandBefore, IsFault}
+use Rattle.dsm_top.specs.Text.{lines_of, register, spelling, InRange, IsDirective, AreInstructions, StandsFor, StandBefore, IsFault}
 use Rattle.dsm_top.specs.TextFaults.{OneProgram, NoFaultOfPrograms, OneFault}
 use Rattle.dsm_top.proofs.Spelling.{Spells-li, Spells-ld, Spells-st, Spells-out, Spells-halt}
 use Rattle.dsm_top.proofs.Lines.{AreInstructions-length, AreInstructions-at, stands-at}

@@ -1,11 +1,11 @@
 -- How numbers, registers and instructions are spelt.
-use Rattle.std.proofs.Common.{OkIff, IsSome, ◌↔◌, get_or, drop, codes, Bor, MatchResult, ◌≡◌, ◌≢◌, ℕ, ◌+◌, ◌<◌, ◌^◌, List, [], ◌∷◌, Option, Some, None, Result, Ok, Err, IfSome, IfNone, IsUtf8, decimal, length, refl, sym, ap, ◌∙◌, subst, arith}
+use Rattle.std.proofs.Common.{OkIff, IsSome, ◌↔◌, get_or, drop, codes, Bor, MatchResult, ◌≡◌, ℕ, ◌<◌, ◌^◌, List, [], ◌∷◌, Option, Some, None, Result, Ok, Err, IfNone, IsUtf8, decimal, refl, sym, ap, ◌∙◌, arith}
 use Rattle.std.specs.Result.{result_ok}
 use Rattle.std.proofs.lemmas.Str.{IsUtf8-from_ascii}
 use Rattle.std.proofs.lemmas.Fmt.{IsAscii-decimal}
 use Rattle.dsm_isa.specs.declared.instr.Instr.{Instr}
 use Rattle.dsm_isa.specs.declared.instr.Instr.TheVariants.{Li, Ld, St, Out, Halt}
-use Rattle.dsm_top.specs.Text.{register, spelling, InRange, Spells}
+use Rattle.dsm_top.specs.Text.{register, Spells}
 
 -- what spells a number is text
 pub IsUtf8-number : (word : List ℕ) (n : ℕ) → n < 2 ^ 64 → word ≡ decimal n → IsUtf8 word

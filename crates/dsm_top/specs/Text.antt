@@ -1,5 +1,5 @@
 -- The text of a program, by whole lines: which texts are in the form, and which program each stands for.
-use Rattle.std.specs.Prelude.{◌≡◌, ℕ, zero, suc, ◌+◌, ◌-◌, ◌<◌, ◌≤◌, ◌^◌, ◌==◌, if◌then◌else◌, List, [], ◌∷◌, length, codes, decimal, Option, None, Some, slice_get}
+use Rattle.std.specs.Prelude.{◌≡◌, ℕ, zero, suc, ◌-◌, ◌<◌, ◌≤◌, ◌^◌, ◌==◌, if◌then◌else◌, List, [], ◌∷◌, length, codes, decimal, Option, None, Some, slice_get}
 use Rattle.dsm_isa.specs.declared.instr.Instr.{Instr}
 use Rattle.dsm_isa.specs.declared.instr.Instr.TheVariants.{Li, Ld, St, Out, Halt}
 use Rattle.dsm_top.specs.declared.text.fault.FaultKind.{FaultKind}

@@ -2,7 +2,7 @@
 use Rattle.std.specs.Prelude.{◌≡◌, ℕ, suc, ◌+◌, ◌<◌, List, Some, slice_get}
 use Rattle.dsm_isa.specs.declared.instr.Instr.{Instr}
 use Rattle.dsm_top.specs.declared.text.fault.FaultKind.{FaultKind}
-use Rattle.dsm_top.specs.declared.text.fault.FaultKind.TheVariants.{NotYet, NoCode}
+use Rattle.dsm_top.specs.declared.text.fault.FaultKind.TheVariants.{NotYet}
 use Rattle.dsm_top.specs.declared.text.fault.TextErr.{TextErr}
 use Rattle.dsm_top.specs.declared.text.fault.TextErr.TheVariants.{Refused, NoMemory}
 use Rattle.dsm_top.specs.Text.{StandsFor, MayStand, IsFault}

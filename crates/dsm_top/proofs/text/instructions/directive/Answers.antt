@@ -1,4 +1,4 @@
-use Rattle.std.proofs.Common.{◌≡◌, [], ◌∷◌, ap, ◌∙◌, sym, get_or, arith}
+use Rattle.std.proofs.Common.{◌≡◌, [], ap, ◌∙◌, sym, get_or, arith}
 use Rattle.std.proofs.lemmas.Fmt.{decimal_injective}
 use Rattle.dsm_top.proofs.text.instructions.directive.Goals as goal
 use Rattle.dsm_top.proofs.text.instructions.directive.Goals.{then-words-eq0-via-then-words-eq0, then-words-eq0-via-else-words-eq0+then-words-gt-MOST_WORDS}

@@ -1,5 +1,3 @@
-use Rattle.std.proofs.Common.{◌≡◌, []}
-use Rattle.dsm_top.specs.Text.{words_left}
 use Rattle.dsm_top.proofs.Cutting.{words_of-some}
 use Rattle.dsm_top.proofs.Spelling.{Spells-halt}
 use Rattle.dsm_top.proofs.text.instructions.halt.Goals as goal

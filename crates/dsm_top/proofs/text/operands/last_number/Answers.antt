@@ -1,4 +1,4 @@
-use Rattle.std.proofs.Common.{◌≡◌, List, ap, option_copied}
+use Rattle.std.proofs.Common.{◌≡◌, ap, option_copied}
 use Rattle.dsm_top.specs.Text.{words_of, words_left}
 use Rattle.dsm_top.proofs.Cutting.{words_left-some}
 use Rattle.dsm_top.proofs.text.operands.last_number.Goals as goal

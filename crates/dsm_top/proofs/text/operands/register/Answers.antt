@@ -1,4 +1,4 @@
-use Rattle.std.proofs.Common.{◌≡◌, ◌<◌, ◌^◌, ℕ, decimal, ap, ◌∙◌, sym, drop, arith}
+use Rattle.std.proofs.Common.{◌≡◌, decimal, ap, ◌∙◌, sym, drop, arith}
 use Rattle.std.proofs.lemmas.Fmt.{decimal_injective}
 use Rattle.dsm_top.proofs.Spelling.{no_value, a_value, none-new}
 use Rattle.dsm_top.proofs.text.operands.register.Goals as goal

@@ -1,7 +1,7 @@
-use Rattle.std.proofs.Common.{◌≡◌, ◌+◌, ◌<◌, ◌≤◌, ℕ, List, [], ◌∷◌, ◌++◌, length, length-append, append_assoc, refl, ap, ◌∙◌, sym, subst, arith}
+use Rattle.std.proofs.Common.{◌≡◌, ◌+◌, [], ◌∷◌, ◌++◌, length, length-append, append_assoc, refl, ap, ◌∙◌, sym, arith}
 use Rattle.dsm_top.specs.declared.text.fault.FaultKind.TheVariants.{NotYet}
 use Rattle.dsm_top.specs.declared.text.fault.TextFault.{TextFault}
-use Rattle.dsm_top.specs.Text.{lines_of, AreInstructions, MayStand}
+use Rattle.dsm_top.specs.Text.{lines_of}
 use Rattle.dsm_top.proofs.Lines.{AreInstructions-snoc, RefusesInstruction-next}
 use Rattle.dsm_top.proofs.text.program.instructions.Goals as goal
 use Rattle.dsm_top.proofs.text.program.instructions.Goals.{in_default-instruction-via-in-Some-instruction+else-len-lt-MOST, in_default-instruction-via-in_default-instruction}
