@@ -1,4 +1,6 @@
 // What the top call reads and writes, over sources and sinks in memory.
+ghost use Rattle.std.specs.Prelude.{◌<◌};
+
 use super::*;
 use dsm_io::{MemSink, MemSource};
 use std::test::Fail;
