@@ -1,6 +1,5 @@
 -- How the one processor of a run ended.
-use Rattle.std.proofs.Common.{◌≡◌, ℕ, List, [], ◌∷◌, Option, Some, refl}
-use Rattle.std.specs.Prelude.{All}
+use Rattle.std.proofs.Common.{◌≡◌, List, [], ◌∷◌, Option, Some, refl}
 use Rattle.std.proofs.lemmas.List.Elements.{All-from_recursion}
 use Rattle.dsm_local.specs.declared.end.End.{End}
 use Rattle.dsm_local.specs.declared.end.End.TheVariants.{Halted, Trapped}

@@ -1,5 +1,5 @@
 -- A run, event by event.
-use Rattle.std.proofs.Common.{◌≡◌, ℕ, ◌+◌, zero, suc, List, [], ◌∷◌, ◌++◌, Option, None, Some, length, take, drop, append-nil, arith, refl, sym, ap, ◌∙◌}
+use Rattle.std.proofs.Common.{◌≡◌, ℕ, zero, suc, List, [], ◌∷◌, ◌++◌, Option, None, Some, length, take, drop, append-nil, arith, refl, sym, ap, ◌∙◌}
 use Rattle.std.proofs.lemmas.List.{take_all, drop_all}
 use Rattle.std.proofs.Math.ListN.{length-set}
 use Rattle.dsm_isa.specs.declared.instr.Instr.{Instr}
@@ -7,10 +7,9 @@ use Rattle.dsm_words.specs.declared.op.Op.{Op}
 use Rattle.dsm_words.specs.declared.op.Op.TheVariants.{Load, Store}
 use Rattle.dsm_words.specs.Op.{answer_of, words_after}
 use Rattle.dsm_local.specs.declared.end.End.{End}
-use Rattle.dsm_machine.specs.Actions.{op_of}
 use Rattle.dsm_machine.specs.declared.action.Action.{Action}
-use Rattle.dsm_machine.specs.Processor.{Processor, new_processor, op_unless, next_action, next_op, after_event, after_answers}
-use Rattle.dsm_top.specs.Run.{State, start, state_after, after}
+use Rattle.dsm_machine.specs.Processor.{Processor, new_processor, op_unless, next_op, after_event, after_answers}
+use Rattle.dsm_top.specs.Run.{State, state_after, after}
 
 -- the state behind the next operation is that of one event more
 pub after-next : (size : ℕ) (code : List Instr) (n : ℕ) (s : State) (op : Op) → s ≡ after size code n → next_op size code s.processor ≡ Some op

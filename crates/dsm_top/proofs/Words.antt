@@ -1,12 +1,11 @@
 -- Which words begin a plan's, and which is the first that doesn't.
-use Rattle.std.proofs.Common.{◌≡◌, ℕ, Bool, true, false, IsTrue, Option, sym, ◌∙◌, nat_eq, drop, subst, take-append-drop, ◌+◌, ◌-◌, ◌<◌, ◌≤◌, List, [], ◌∷◌, ◌++◌, Some, length, take, arith, refl, ap, inl, inr, slice_get}
+use Rattle.std.proofs.Common.{◌≡◌, ℕ, Bool, IsTrue, Option, sym, ◌∙◌, nat_eq, drop, subst, take-append-drop, ◌<◌, ◌≤◌, List, [], ◌∷◌, Some, length, arith, refl, ap, inl, inr, slice_get}
 use Rattle.std.specs.Cmp.Lexicographic.{pointwise}
-use Rattle.std.specs.Bool.{Decides}
 use Rattle.std.proofs.lemmas.Bool.Decides.{Decides-eqb}
 use Rattle.std.proofs.lemmas.Slice.Eq.{slice_eq-Decides}
 use Rattle.dsm_top.specs.declared.plans.Plan.{Plan}
 use Rattle.dsm_top.specs.declared.plans.Plan.TheVariants.{Sim}
-use Rattle.dsm_top.specs.Plans.{PlanOf, BeginsPlan, FirstFault}
+use Rattle.dsm_top.specs.Plans.{PlanOf, FirstFault}
 
 -- `sim` and `1x1`
 abbrev sim : List ℕ

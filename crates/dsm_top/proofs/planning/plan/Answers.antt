@@ -1,4 +1,4 @@
-use Rattle.std.proofs.Common.{◌≡◌, ◌<◌, ◌≤◌, length, map, refl, arith}
+use Rattle.std.proofs.Common.{◌<◌, ◌≤◌, length, refl, arith}
 use Rattle.std.proofs.lemmas.List.{length-map}
 use Rattle.dsm_top.specs.Plans.{texts}
 use Rattle.dsm_top.proofs.Words.{fault-at_first, fault-at_second, fault-at_third, words-of_plan}

@@ -1,8 +1,8 @@
-use Rattle.std.proofs.Common.{◌≡◌, ℕ, ◌+◌, ◌≤◌, suc, [], ◌∷◌, ◌++◌, Some, length, take, drop, arith, refl, sym, ap, ◌∙◌}
+use Rattle.std.proofs.Common.{◌≡◌, suc, [], ◌∷◌, ◌++◌, Some, length, take, drop, refl, sym, ap, ◌∙◌}
 use Rattle.dsm_words.specs.Op.{answer_of, words_after}
 use Rattle.dsm_local.specs.Local.{Local}
 use Rattle.dsm_machine.specs.Processor.{new_processor, next_action, next_op, after_event, after_answers}
-use Rattle.dsm_top.specs.Run.{State, after}
+use Rattle.dsm_top.specs.Run.{State}
 use Rattle.dsm_top.proofs.Moments.{after-next, length-words_after, take-whole, end-from_no_op, answered}
 use Rattle.dsm_top.proofs.running.run.Goals as goal
 

@@ -1,4 +1,4 @@
-use Rattle.std.proofs.Common.{◌≡◌, false, refl, ◌∙◌, ap, inl, inr, arith}
+use Rattle.std.proofs.Common.{refl, inl, inr, arith}
 use Rattle.dsm_top.specs.Plans.{texts}
 use Rattle.dsm_top.specs.Report.{refused_line, kind_name}
 use Rattle.dsm_top.proofs.Words.{none-PlanOf}
