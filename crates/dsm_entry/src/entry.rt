@@ -19,6 +19,12 @@ impl<T: Drop> From<AllocFailed<T>> for NoMemory {
 /// What a synchronisation entry is about.
 #[derive(Clone, Copy, Debug, PartialEq, Eq)]
 pub enum Obj {
+    /// The lock of this number.
+    Lock(u32),
+    /// The barrier of this number.
+    Barrier(u32),
+    /// The flag of this number.
+    Flag(u32),
     /// The closing barrier, at which every processor arrives when it halts.
     Close,
 }
