@@ -1,0 +1,18 @@
+// Laws of the order, whatever the traces are.
+ghost use Rattle.dsm_flat.specs.Laws.{IsTransitive, RankExcludesCircles, LastIsDetermined, FinalIsDetermined, OneTrace, SignalThenPass};
+
+/// The laws of the order. It does nothing: its clauses are what it is for.
+pub fn order_laws()
+    // What is before a place is before all that the place is before.
+    ensures transitive { IsTransitive }
+    // A number for each place that every edge raises shows that no place is before itself.
+    ensures rank { RankExcludesCircles }
+    // Where no place is before itself, a place has at most one last value of a word.
+    ensures last { LastIsDetermined }
+    // Where no place is before itself, a word has at most one final value.
+    ensures final_value { FinalIsDetermined }
+    // For one trace in which no place is before itself, before is the order of places.
+    ensures one_trace { OneTrace }
+    // From one processor to another, before leads by a signal and then a pass.
+    ensures carried { SignalThenPass }
+{}
