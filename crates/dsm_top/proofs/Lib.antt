@@ -5,3 +5,4 @@ pub mod Moments
 pub mod Spelling
 pub mod Words
 pub mod Ends
+pub mod Logs

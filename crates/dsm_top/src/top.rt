@@ -1,4 +1,6 @@
-ghost use Rattle.std.specs.Prelude.{◌≡◌, ℕ, ◌≤◌, ◌⊎◌, ◌↔◌, IsSome, IfSome, None};
+ghost use Rattle.std.specs.Prelude.{◌≡◌, ℕ, ◌<◌, ◌≤◌, ◌⊎◌, ◌↔◌, IsSome, IfSome, None, length, slice_index};
+ghost use Rattle.dsm_flat.specs.Flat.{Flat, Sourced, Final};
+ghost use Rattle.dsm_flat.specs.Sync.{SyncLegal};
 ghost use Rattle.std.specs.Io.KnownBytes.{Appends};
 ghost use Rattle.dsm_io.specs.Faults.{Rose};
 ghost use Rattle.dsm_io.specs.Whole.{AppendsPrefix};
@@ -55,6 +57,14 @@ pub fn still<S: Source, K: Sink>(
     ensures halted { result.status ≡ 0 → IfSome result.ran (λ a. AllHalted a.ends) }
     ensures trapped { result.status ≡ 1 → IfSome result.ran (λ a. TrapsAddress a.ends) }
     ensures whole { (result.status ≡ 0) ⊎ (result.status ≡ 1) → IfSome result.ran (λ a. Appends (K.written sink.old) (K.written sink.new) (report_of a)) }
+
+    // The run is that of a flat memory. Its synchronisation is legal, each load of a word returned the
+    // last store ordered before it, no load returned a value that was not there, and where the processor
+    // halted the page holds the last stores.
+    ensures synchronised { IfSome result.ran (λ a. SyncLegal a.traces 1) }
+    ensures flat { IfSome result.ran (λ a. (w : ℕ) → Flat a.traces 0 w) }
+    ensures sourced { IfSome result.ran (λ a. (w : ℕ) → Sourced a.traces 0 w) }
+    ensures last { IfSome result.ran (λ a. AllHalted a.ends → (w : ℕ) → w < length a.pages → Final a.traces 0 w (slice_index a.pages w)) }
 
     // Status 5 only where a write failed. A prefix of the report is written then.
     ensures write_fault { result.status ≡ 5 → Rose (K.faults sink.old) (K.faults sink.new) }

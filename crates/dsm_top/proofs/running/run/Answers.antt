@@ -2,8 +2,12 @@ use Rattle.std.proofs.Common.{◌≡◌, suc, [], ◌∷◌, ◌++◌, Some, len
 use Rattle.dsm_words.specs.Op.{answer_of, words_after}
 use Rattle.dsm_local.specs.Local.{Local}
 use Rattle.dsm_machine.specs.Processor.{new_processor, next_action, next_op, after_event, after_answers}
-use Rattle.dsm_top.specs.Run.{State}
+use Rattle.dsm_top.specs.Run.{State, after}
 use Rattle.dsm_top.proofs.Moments.{after-next, length-words_after, take-whole, end-from_no_op, answered}
+use Rattle.std.proofs.Common.{List, map}
+use Rattle.dsm_entry.specs.declared.entry.Entry.{Entry}
+use Rattle.dsm_entry.specs.declared.trace.Trace.{Trace}
+use Rattle.dsm_top.proofs.Logs.{legal, sourced_all, flat_all, final_all}
 use Rattle.dsm_top.proofs.running.run.Goals as goal
 
 pub loop-op-preserved : goal.loop-op-preserved
@@ -46,3 +50,28 @@ returns-clause-ends c =
         local = rw ended.1 at local;
       },
     )
+
+-- the trace in the account, and that of the state at the end of the run
+traces-is : (c : goal.In_ok-traces) → map (λ (t : Trace). t.list) c.in_ok-traces.traces.items ≡ c.loop-op.machine.processor.trace ∷ []
+traces-is c = rw c.in_ok-traces.ensures.items (ap (λ (l : List Entry). l ∷ []) c.into_trace.ensures)
+
+-- the trace of the state at the end of the run
+trace-is : (c : goal.In_ok-traces) → c.loop-op.machine.processor.trace ≡ (after c.args.program.now.words c.args.program.now.code c.loop-op.invariant.reached.0).processor.trace
+trace-is c = ap (λ (s : State). s.processor.trace) c.loop-op.invariant.reached.1
+
+pub returns-clause-synchronised : goal.returns-clause-synchronised
+returns-clause-synchronised c = rw (traces-is c) (legal c.args.program.now.words c.args.program.now.code c.loop-op.invariant.reached.0 c.loop-op.machine.processor.trace (trace-is c))
+
+pub returns-clause-sourced : goal.returns-clause-sourced
+returns-clause-sourced c = λ w. rw (traces-is c) (sourced_all c.args.program.now.words c.args.program.now.code c.loop-op.invariant.reached.0 c.loop-op.machine.processor.trace (trace-is c) w)
+
+pub returns-clause-flat : goal.returns-clause-flat
+returns-clause-flat c = λ w. rw (traces-is c) (flat_all c.args.program.now.words c.args.program.now.code c.loop-op.invariant.reached.0 c.loop-op.machine.processor.trace (trace-is c) w)
+
+pub returns-clause-last : goal.returns-clause-last
+returns-clause-last c =
+    let size = c.args.program.now.words in
+    let code = c.args.program.now.code in
+    let n = c.loop-op.invariant.reached.0 in
+    let words : c.remove.new.self.items ≡ drop 1 (after size code n).words = c.remove.ensures.items ∙ ap (λ (s : State). drop 1 s.words) c.loop-op.invariant.reached.1 in
+    λ w inside. rw (traces-is c, words) (final_all size code n c.loop-op.machine.processor.trace (trace-is c) w inside)

@@ -1,0 +1,230 @@
+-- The log of a run: what the processor did, newest first, with what the words then hold.
+use Rattle.std.proofs.Common.{◌≡◌, ◌≢◌, ℕ, zero, suc, ◌+◌, ◌<◌, ◌≤◌, ◌⊎◌, Bool, true, false, List, [], ◌∷◌, ◌++◌, Option, None, Some, length, length-append, drop, refl, sym, ap, ◌∙◌, inl, inr, arith, nat_lt, slice_get, slice_index, slice_set, replicate, if◌then◌else◌, ◌==◌}
+use Rattle.std.proofs.lemmas.Bool.Decides.{nat_tests}
+use Rattle.std.proofs.lemmas.Bool.{cases_eq, eq-eqb, ne_eqb}
+use Rattle.std.proofs.Math.ListN.{length-set}
+use Rattle.std.proofs.lemmas.List.{length-replicate}
+use Rattle.std.proofs.lemmas.Grind.{get_or_after_one}
+use Rattle.std.proofs.Common.{get_or-set_same, get_or-set_other}
+use Rattle.dsm_isa.specs.declared.instr.Instr.{Instr}
+use Rattle.dsm_isa.specs.declared.instr.Instr.TheVariants.{Li, Ld, St, Out as Output, Halt}
+use Rattle.dsm_entry.specs.declared.entry.Entry.{Entry}
+use Rattle.dsm_entry.specs.declared.entry.Entry.TheVariants.{Load, Store, Signal, Pass, Out}
+use Rattle.dsm_entry.specs.declared.entry.Obj.TheVariants.{Close}
+use Rattle.dsm_local.specs.declared.end.End.{End}
+use Rattle.dsm_local.specs.Local.{Reader, address}
+use Rattle.dsm_words.specs.Op.{answer_of, words_after}
+use Rattle.dsm_machine.specs.declared.action.Action.{Action}
+use Rattle.dsm_machine.specs.declared.action.Action.TheVariants.{LoadWord, StoreWord, Set, Print, Trap, Arrive, Leave}
+use Rattle.dsm_machine.specs.Actions.{action_of, op_of}
+use Rattle.dsm_machine.specs.Processor.{Processor, new_processor, after_action, next_op, after_event}
+use Rattle.dsm_flat.specs.Flat.{Flat, Sourced, Final}
+use Rattle.dsm_flat.specs.Sync.{SyncLegal}
+use Rattle.dsm_flat.specs.Laws.{Raises}
+use Rattle.dsm_flat.proofs.OrderLaws.{Ordered-one}
+use Rattle.dsm_flat.proofs.History.{Deed, Log, mine, mine_own, mine_other, get_push_new, IsHistory, history_one, rank}
+use Rattle.dsm_flat.proofs.Legal.{signals, counted_signal, Allowed, Legal, rank_raises, sync_legal}
+use Rattle.dsm_flat.proofs.Flatness.{latest, Fetches, InOrder, sourced, flat, final_value}
+use Rattle.dsm_top.specs.Run.{State, start, state_after, after}
+
+-- how far the processor is with the closing barrier, as the log shows it
+pub record HasArrived (log : Log) : Type 0 where
+  pub at : ℕ
+  pub last : length (mine 0 log) ≡ at + 1
+  pub arrival : slice_get (mine 0 log) at ≡ Some (Signal Close 0)
+  pub one : signals Close log ≡ 1
+
+abbrev pub Closing : Option End → Bool → Log → Type 0
+Closing None false log = signals Close log ≡ 0
+Closing None true log = HasArrived log
+Closing (Some e) arrived log = Unit {0}
+
+-- the log is that of the state: of processor 0 alone, legal, each load in order, and each word holds its latest store
+pub record Tells (size : ℕ) (s : State) (log : Log) : Type 0 where
+  pub own : s.processor.trace ≡ mine 0 log
+  pub alone : (q : ℕ) → q ≢ 0 → mine q log ≡ []
+  pub legal : Legal 1 log
+  pub in_order : InOrder (λ _. 0) log
+  pub room : length s.words ≡ size + 1
+  pub words : (w : ℕ) → w < size → slice_index s.words (1 + w) ≡ latest 0 w log
+  pub closing : Closing s.processor.end s.processor.arrived log
+
+abbrev by_0 : Entry → Deed
+by_0 e = record { p = 0; e = e }
+
+own-more : (t : List Entry) (log : Log) (e : Entry) → t ≡ mine 0 log → t ++ e ∷ [] ≡ mine 0 (by_0 e ∷ log)
+own-more t log e own = ap (λ l. l ++ e ∷ []) own ∙ sym (mine_own (by_0 e) log 0 refl)
+
+alone-more : (log : Log) (e : Entry) → ((q : ℕ) → q ≢ 0 → mine q log ≡ []) → (q : ℕ) → q ≢ 0 → mine q (by_0 e ∷ log) ≡ []
+alone-more log e alone q ne = mine_other (by_0 e) log q (λ z. ne (sym z)) ∙ alone q ne
+
+-- a store shows in its own word alone
+words-stored : (size : ℕ) (words : List ℕ) (log : Log) (w v : ℕ) → length words ≡ size + 1 → w < size → ((u : ℕ) → u < size → slice_index words (1 + u) ≡ latest 0 u log)
+    → (u : ℕ) → u < size → slice_index (slice_set words (1 + w) v) (1 + u) ≡ (if w == u then v else latest 0 u log)
+words-stored size words log w v room inside held u below = pick (cases_eq w u)
+  where
+    pick : (w ≡ u) ⊎ (w ≡ u → ⊥) → slice_index (slice_set words (1 + w) v) (1 + u) ≡ (if w == u then v else latest 0 u log)
+    pick (inl same) =
+        let fits : 1 + w < length words = omega (arith, room, inside) in
+        rw (eq-eqb w u same) (rw (← same) (rw get_or-set_same refl))
+    pick (inr other) =
+        let apart : 1 + u ≢ 1 + w = omega (arith, other) in
+        rw (ne_eqb w u other) (rw get_or-set_other (held u below))
+
+-- the state behind an action of a processor that goes on
+abbrev behind : List ℕ → Reader → Bool → List Entry → Action → State
+behind words r arrived t a =
+    record { words = words_after words (op_of a); processor = after_action (record { reader = r; arrived = arrived; trace = t; end = None }) a (answer_of words (op_of a)) }
+
+abbrev running : List ℕ → Reader → Bool → List Entry → State
+running words r arrived t = record { words = words; processor = record { reader = r; arrived = arrived; trace = t; end = None } }
+
+pub record Goes (size : ℕ) (s : State) : Type 0 where
+  pub log : Log
+  pub tells : Tells size s log
+
+goes-load : (size : ℕ) (words : List ℕ) (r : Reader) (t : List Entry) (d w : ℕ) (log : Log) (within : Bool) → nat_lt w size ≡ within → Tells size (running words r false t) log
+    → Goes size (behind words r false t (if nat_lt w size then LoadWord d w else Trap w))
+goes-load size words r t d w log true test h =
+    let inside : w < size = grind (arith, nat_tests) in
+    let e : Entry = Load w (slice_index words (1 + w)) in
+    rw test (record { log = by_0 e ∷ log; tells = record {
+  own = own-more t log e h.own;
+  alone = alone-more log e h.alone;
+  legal = (tt, h.legal);
+  in_order = (h.words w inside, h.in_order);
+  room = h.room;
+  words = h.words;
+  closing = h.closing
+} })
+goes-load size words r t d w log false test h =
+    rw test (record { log = log; tells = record { own = h.own; alone = h.alone; legal = h.legal; in_order = h.in_order; room = h.room; words = h.words; closing = tt } })
+
+goes-store : (size : ℕ) (words : List ℕ) (r : Reader) (t : List Entry) (v w : ℕ) (log : Log) (within : Bool) → nat_lt w size ≡ within → Tells size (running words r false t) log
+    → Goes size (behind words r false t (if nat_lt w size then StoreWord w v else Trap w))
+goes-store size words r t v w log true test h =
+    let inside : w < size = grind (arith, nat_tests) in
+    let e : Entry = Store w v in
+    rw test (record { log = by_0 e ∷ log; tells = record {
+  own = own-more t log e h.own;
+  alone = alone-more log e h.alone;
+  legal = (tt, h.legal);
+  in_order = (tt, h.in_order);
+  room = length-set words (1 + w) v ∙ h.room;
+  words = words-stored size words log w v h.room inside h.words;
+  closing = h.closing
+} })
+goes-store size words r t v w log false test h =
+    rw test (record { log = log; tells = record { own = h.own; alone = h.alone; legal = h.legal; in_order = h.in_order; room = h.room; words = h.words; closing = tt } })
+
+goes-print : (size : ℕ) (words : List ℕ) (r : Reader) (t : List Entry) (v : ℕ) (log : Log) → Tells size (running words r false t) log → Goes size (behind words r false t (Print v))
+goes-print size words r t v log h =
+    record { log = by_0 (Out v) ∷ log; tells = record {
+  own = own-more t log (Out v) h.own;
+  alone = alone-more log (Out v) h.alone;
+  legal = (tt, h.legal);
+  in_order = (tt, h.in_order);
+  room = h.room;
+  words = h.words;
+  closing = h.closing
+} }
+
+goes-arrive : (size : ℕ) (words : List ℕ) (r : Reader) (t : List Entry) (log : Log) → Tells size (running words r false t) log → Goes size (behind words r false t Arrive)
+goes-arrive size words r t log h =
+    let e : Entry = Signal Close 0 in
+    let more : mine 0 (by_0 e ∷ log) ≡ mine 0 log ++ e ∷ [] = mine_own (by_0 e) log 0 refl in
+    record { log = by_0 e ∷ log; tells = record {
+  own = own-more t log e h.own;
+  alone = alone-more log e h.alone;
+  legal = (sym h.closing, h.legal);
+  in_order = (tt, h.in_order);
+  room = h.room;
+  words = h.words;
+  closing = record {
+    at = length (mine 0 log);
+    last = rw (more, length-append) (omega arith);
+    arrival = rw more (get_push_new (mine 0 log) e);
+    one = counted_signal Close 0 (signals Close log) ∙ ap (λ n. n + 1) h.closing
+  }
+} }
+
+goes-leave : (size : ℕ) (words : List ℕ) (r : Reader) (t : List Entry) (log : Log) → Tells size (running words r true t) log → Goes size (behind words r true t Leave)
+goes-leave size words r t log h =
+    let e : Entry = Pass Close 1 in
+    record { log = by_0 e ∷ log; tells = record {
+  own = own-more t log e h.own;
+  alone = alone-more log e h.alone;
+  legal = (record { i = h.closing.at; a = 0; last = h.closing.last; arrival = h.closing.arrival; need = refl; all = omega (arith, h.closing.one) }, h.legal);
+  in_order = (tt, h.in_order);
+  room = h.room;
+  words = h.words;
+  closing = tt
+} }
+
+goes-instruction : (size : ℕ) (words : List ℕ) (r : Reader) (t : List Entry) (log : Log) (i : Option Instr) → Tells size (running words r false t) log → Goes size (behind words r false t (action_of size r i))
+goes-instruction size words r t log (Some (Li d k)) h =
+    record { log = log; tells = record { own = h.own; alone = h.alone; legal = h.legal; in_order = h.in_order; room = h.room; words = h.words; closing = h.closing } }
+goes-instruction size words r t log (Some (Ld d a k)) h = goes-load size words r t d (address r a k) log (nat_lt (address r a k) size) refl h
+goes-instruction size words r t log (Some (St s a k)) h = goes-store size words r t (slice_index r.registers s) (address r a k) log (nat_lt (address r a k) size) refl h
+goes-instruction size words r t log (Some (Output s)) h = goes-print size words r t (slice_index r.registers s) log h
+goes-instruction size words r t log (Some Halt) h = goes-arrive size words r t log h
+goes-instruction size words r t log None h = goes-arrive size words r t log h
+
+goes-event : (size : ℕ) (code : List Instr) (words : List ℕ) (r : Reader) (arrived : Bool) (t : List Entry) (e : Option End) (log : Log)
+    → Tells size (record { words = words; processor = record { reader = r; arrived = arrived; trace = t; end = e } }) log
+    → let p : Processor = record { reader = r; arrived = arrived; trace = t; end = e } in Goes size (state_after size code (record { words = words; processor = p }) (next_op size code p))
+goes-event size code words r arrived t (Some e) log h = record { log = log; tells = h }
+goes-event size code words r true t None log h = goes-leave size words r t log h
+goes-event size code words r false t None log h = goes-instruction size words r t log (slice_get code r.place) h
+
+-- all words are 0 at the start
+zeros : (n k : ℕ) → slice_index (replicate n 0) k ≡ 0
+zeros zero k = refl
+zeros (suc n) zero = refl
+zeros (suc n) (suc k) = zeros n k
+
+-- each state of a run has its log
+pub goes : (size : ℕ) (code : List Instr) (n : ℕ) → Goes size (after size code n)
+goes size code zero =
+    record { log = []; tells = record {
+  own = refl;
+  alone = λ q ne. refl;
+  legal = tt;
+  in_order = tt;
+  room = length-replicate (size + 1) 0;
+  words = λ w inside. zeros (size + 1) (1 + w);
+  closing = refl
+} }
+goes size code (suc n) =
+    let s = after size code n in
+    let g = goes size code n in
+    goes-event size code s.words s.processor.reader s.processor.arrived s.processor.trace s.processor.end g.log g.tells
+
+-- What follows for the trace of the one processor, at each moment of the run.
+module _ (size : ℕ) (code : List Instr) (n : ℕ) (t : List Entry) (same : t ≡ (after size code n).processor.trace) where
+  abbrev log : Log
+  log = (goes size code n).log
+
+  abbrev tells : Tells size (after size code n) log
+  tells = (goes size code n).tells
+
+  history : IsHistory log (t ∷ [])
+  history = history_one log t (same ∙ tells.own) tells.alone
+
+  raises : Raises (t ∷ []) (rank log)
+  raises = rank_raises 1 log (t ∷ []) history tells.legal
+
+  pub legal : SyncLegal (t ∷ []) 1
+  legal = sync_legal 1 log (t ∷ []) history tells.legal
+
+  pub sourced_all : (w : ℕ) → Sourced (t ∷ []) 0 w
+  sourced_all w = sourced (λ _. 0) log (t ∷ []) history raises tells.in_order w
+
+  pub flat_all : (w : ℕ) → Flat (t ∷ []) 0 w
+  flat_all w = flat (λ _. 0) log (t ∷ []) history raises tells.in_order w (Ordered-one t w)
+
+  pub final_all : (w : ℕ) → w < size → Final (t ∷ []) 0 w (slice_index (drop 1 (after size code n).words) w)
+  final_all w inside =
+      let words = (after size code n).words in
+      let held : slice_index (drop 1 words) w ≡ latest 0 w log = get_or_after_one words w 0 ∙ tells.words w inside in
+      rw held (final_value (λ _. 0) log (t ∷ []) history raises tells.in_order w (Ordered-one t w))
