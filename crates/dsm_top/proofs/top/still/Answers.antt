@@ -51,3 +51,8 @@ returns-clause-prefix g c =
       | in-Ok-write_all w ↦ λ s. absurd (omega (arith, w.status-is, s))
       | in-Ok-2 w ↦ λ s. absurd (omega (arith, w.status-is, s))
     ]
+
+pub returns-clause-last : goal.returns-clause-last
+returns-clause-last g c =
+    let room = c.in-Ok-run.ensures.room in
+    λ _ w inside. c.in-Ok-run.ensures.last w (omega (arith, room, inside))
