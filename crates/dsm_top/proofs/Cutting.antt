@@ -1,9 +1,9 @@
 -- Where a text is cut into its lines, and a line into its words.
-use Rattle.std.proofs.Common.{inl, inr, Bor, Option, None, Some, is_some, option_copied, ◌≡◌, ◌≢◌, ℕ, zero, suc, ◌+◌, ◌-◌, ◌<◌, ◌≤◌, List, [], ◌∷◌, true, length, get_or, take, drop, refl, sym, ap, ◌∙◌, arith, add-one}
+use Rattle.std.proofs.Common.{inl, inr, ◌≡◌, ◌≢◌, ℕ, zero, suc, ◌+◌, ◌-◌, ◌<◌, ◌≤◌, List, [], ◌∷◌, true, false, length, get_or, take, drop, refl, sym, ap, ◌∙◌, arith, add-one}
+use Rattle.std.specs.List.{filter}
 use Rattle.std.proofs.lemmas.Bool.{ne_eqb, eq-eqb}
-use Rattle.std.proofs.lemmas.Bool.Decides.{eqb_tells}
 use Rattle.std.proofs.lemmas.List.{length-drop, take_all}
-use Rattle.dsm_top.specs.Text.{onto, lines_of, words_of, words_left}
+use Rattle.dsm_top.specs.Text.{onto, lines_of, content_of, is_blank, pieces_of, is_some_piece, words_of}
 
 lines_of-feed : (b : ℕ) (bytes : List ℕ) → b ≡ 10 → lines_of (b ∷ bytes) ≡ [] ∷ lines_of bytes
 lines_of-feed b bytes e = rw (eq-eqb b 10 e)
@@ -11,11 +11,17 @@ lines_of-feed b bytes e = rw (eq-eqb b 10 e)
 lines_of-other : (b : ℕ) (bytes : List ℕ) → b ≢ 10 → lines_of (b ∷ bytes) ≡ onto b (lines_of bytes)
 lines_of-other b bytes e = rw (ne_eqb b 10 e)
 
-words_of-space : (b : ℕ) (bytes : List ℕ) → b ≡ 32 → words_of (b ∷ bytes) ≡ [] ∷ words_of bytes
-words_of-space b bytes e = rw (eq-eqb b 32 e)
+content_of-semicolon : (b : ℕ) (bytes : List ℕ) → b ≡ 59 → content_of (b ∷ bytes) ≡ []
+content_of-semicolon b bytes e = rw (eq-eqb b 59 e)
 
-words_of-other : (b : ℕ) (bytes : List ℕ) → b ≢ 32 → words_of (b ∷ bytes) ≡ onto b (words_of bytes)
-words_of-other b bytes e = rw (ne_eqb b 32 e)
+content_of-other : (b : ℕ) (bytes : List ℕ) → b ≢ 59 → content_of (b ∷ bytes) ≡ b ∷ content_of bytes
+content_of-other b bytes e = rw (ne_eqb b 59 e)
+
+pieces_of-blank : (b : ℕ) (bytes : List ℕ) → is_blank b ≡ true → pieces_of (b ∷ bytes) ≡ [] ∷ pieces_of bytes
+pieces_of-blank b bytes e = rw e
+
+pieces_of-other : (b : ℕ) (bytes : List ℕ) → is_blank b ≡ false → pieces_of (b ∷ bytes) ≡ onto b (pieces_of bytes)
+pieces_of-other b bytes e = rw e
 
 -- A text whose first line feed stands at this place is the line before it and the lines behind it.
 pub lines_of-at : (bytes : List ℕ) (at : ℕ) → at < length bytes → get_or bytes at 0 ≡ 10 → ((k : ℕ) → k < at → get_or bytes k 0 ≢ 10) → lines_of bytes ≡ take at bytes ∷ lines_of (drop (suc at) bytes)
@@ -31,36 +37,68 @@ lines_of-none (b ∷ []) some none = lines_of-other b [] (none 0 (omega arith))
 lines_of-none (b ∷ c ∷ bytes) some none =
     lines_of-other b (c ∷ bytes) (none 0 (omega arith)) ∙ ap (onto b) (lines_of-none (c ∷ bytes) (omega arith) (λ k below. none (suc k) (omega arith)))
 
--- A line whose first space stands at this place is the word before it and the words behind it.
-pub words_of-at : (bytes : List ℕ) (at : ℕ) → at < length bytes → get_or bytes at 0 ≡ 32 → ((k : ℕ) → k < at → get_or bytes k 0 ≢ 32) → words_of bytes ≡ take at bytes ∷ words_of (drop (suc at) bytes)
-words_of-at [] at within found first = absurd (omega arith)
-words_of-at (b ∷ bytes) zero within found first = words_of-space b bytes found
-words_of-at (b ∷ bytes) (suc at) within found first =
-    words_of-other b bytes (first 0 (omega arith)) ∙ ap (onto b) (words_of-at bytes at (omega arith) found (λ k below. first (suc k) (omega arith)))
+-- The content of a line ends at its first semicolon.
+pub content_of-at : (bytes : List ℕ) (at : ℕ) → at < length bytes → get_or bytes at 0 ≡ 59 → ((k : ℕ) → k < at → get_or bytes k 0 ≢ 59) → content_of bytes ≡ take at bytes
+content_of-at [] at within found first = absurd (omega arith)
+content_of-at (b ∷ bytes) zero within found first = content_of-semicolon b bytes found
+content_of-at (b ∷ bytes) (suc at) within found first =
+    content_of-other b bytes (first 0 (omega arith)) ∙ ap (λ c. b ∷ c) (content_of-at bytes at (omega arith) found (λ k below. first (suc k) (omega arith)))
 
--- A line with no space is one word.
-pub words_of-none : (bytes : List ℕ) → ((k : ℕ) → k < length bytes → get_or bytes k 0 ≢ 32) → words_of bytes ≡ bytes ∷ []
-words_of-none [] none = refl
-words_of-none (b ∷ bytes) none =
-    words_of-other b bytes (none 0 (omega arith)) ∙ ap (onto b) (words_of-none bytes (λ k below. none (suc k) (omega arith)))
+-- A line with no semicolon is content as a whole.
+pub content_of-none : (bytes : List ℕ) → ((k : ℕ) → k < length bytes → get_or bytes k 0 ≢ 59) → content_of bytes ≡ bytes
+content_of-none [] none = refl
+content_of-none (b ∷ bytes) none =
+    content_of-other b bytes (none 0 (omega arith)) ∙ ap (λ c. b ∷ c) (content_of-none bytes (λ k below. none (suc k) (omega arith)))
+
+-- Bytes whose first blank stands at this place are the piece before it and the pieces behind it.
+pieces_of-at : (bytes : List ℕ) (at : ℕ) → at < length bytes → is_blank (get_or bytes at 0) ≡ true → ((k : ℕ) → k < at → is_blank (get_or bytes k 0) ≡ false) → pieces_of bytes ≡ take at bytes ∷ pieces_of (drop (suc at) bytes)
+pieces_of-at [] at within found first = absurd (omega arith)
+pieces_of-at (b ∷ bytes) zero within found first = pieces_of-blank b bytes found
+pieces_of-at (b ∷ bytes) (suc at) within found first =
+    pieces_of-other b bytes (first 0 (omega arith)) ∙ ap (onto b) (pieces_of-at bytes at (omega arith) found (λ k below. first (suc k) (omega arith)))
+
+-- Bytes with no blank are one piece.
+pieces_of-none : (bytes : List ℕ) → ((k : ℕ) → k < length bytes → is_blank (get_or bytes k 0) ≡ false) → pieces_of bytes ≡ bytes ∷ []
+pieces_of-none [] none = refl
+pieces_of-none (b ∷ bytes) none =
+    pieces_of-other b bytes (none 0 (omega arith)) ∙ ap (onto b) (pieces_of-none bytes (λ k below. none (suc k) (omega arith)))
+
+-- Blanks before the first word leave the words as they are.
+pub words_of-skip : (bytes : List ℕ) (at : ℕ) → at ≤ length bytes → ((k : ℕ) → k < at → is_blank (get_or bytes k 0) ≡ true) → words_of bytes ≡ words_of (drop at bytes)
+words_of-skip bytes zero within blanks = refl
+words_of-skip [] (suc at) within blanks = absurd (omega arith)
+words_of-skip (b ∷ bytes) (suc at) within blanks =
+    ap (filter is_some_piece) (pieces_of-blank b bytes (blanks 0 (omega arith))) ∙ words_of-skip bytes at (omega arith) (λ k below. blanks (suc k) (omega arith))
+
+-- Bytes that begin with a word, which ends at this blank, are that word and the words behind it.
+pub words_of-at : (bytes : List ℕ) (at : ℕ) → at < length bytes → is_blank (get_or bytes 0 0) ≡ false → is_blank (get_or bytes at 0) ≡ true → ((k : ℕ) → k < at → is_blank (get_or bytes k 0) ≡ false) → words_of bytes ≡ take at bytes ∷ words_of (drop (suc at) bytes)
+words_of-at [] at within begins found first = absurd (omega arith)
+words_of-at (b ∷ bytes) zero within begins found first = absurd (cc (begins, found))
+words_of-at (b ∷ bytes) (suc at) within begins found first = ap (filter is_some_piece) (pieces_of-at (b ∷ bytes) (suc at) within found first)
+
+-- Bytes with no blank, of which there are some, are one word.
+pub words_of-none : (bytes : List ℕ) → 0 < length bytes → ((k : ℕ) → k < length bytes → is_blank (get_or bytes k 0) ≡ false) → words_of bytes ≡ bytes ∷ []
+words_of-none [] some none = absurd (omega arith)
+words_of-none (b ∷ bytes) some none = ap (filter is_some_piece) (pieces_of-none (b ∷ bytes) none)
+
+drop_whole : (bytes : List ℕ) → drop (length bytes) bytes ≡ []
+drop_whole [] = refl
+drop_whole (b ∷ bytes) = drop_whole bytes
+
+-- Blanks alone are no word.
+pub words_of-blanks : (bytes : List ℕ) → ((k : ℕ) → k < length bytes → is_blank (get_or bytes k 0) ≡ true) → words_of bytes ≡ []
+words_of-blanks bytes blanks = words_of-skip bytes (length bytes) (omega arith) blanks ∙ ap words_of (drop_whole bytes)
 
 -- What stands behind a place is all from the next place on.
 pub behind : (bytes : List ℕ) (at : ℕ) → take (length bytes - (at + 1)) (drop (at + 1) bytes) ≡ drop (suc at) bytes
 behind bytes at = let rest : length (drop (at + 1) bytes) ≤ length bytes - (at + 1) = omega (arith, length-drop (at + 1) bytes) in take_all _ _ rest ∙ ap (λ n. drop n bytes) (add-one at)
 
-onto-some : (b : ℕ) (pieces : List (List ℕ)) → onto b pieces ≡ [] → ⊥
-onto-some b [] e = cc
-onto-some b (piece ∷ pieces) e = cc
+-- What stands from a place on.
+pub from : (bytes : List ℕ) (at : ℕ) → take (length bytes - at) (drop at bytes) ≡ drop at bytes
+from bytes at = let rest : length (drop at bytes) ≤ length bytes - at = omega (arith, length-drop at bytes) in take_all _ _ rest
 
--- A line has a word.
-pub words_of-some : (bytes : List ℕ) → words_of bytes ≡ [] → ⊥
-words_of-some [] e = cc
-words_of-some (b ∷ bytes) e = elim (eqb_tells b 32) [
-  | inl w ↦ (let first = words_of-space b bytes w.1 in cc)
-  | inr w ↦ onto-some b (words_of bytes) (sym (words_of-other b bytes w.1) ∙ e)
-]
-
--- What stands behind a space has a word.
-pub words_left-some : (rest : Option (Bor (List ℕ))) → true ≡ is_some rest → words_left (option_copied rest) ≡ [] → ⊥
-words_left-some None e none = cc
-words_left-some (Some rest) e none = words_of-some rest.now none
+-- Its first byte.
+pub get_or-from : (bytes : List ℕ) (at : ℕ) → get_or (drop at bytes) 0 0 ≡ get_or bytes at 0
+get_or-from bytes zero = refl
+get_or-from [] (suc at) = refl
+get_or-from (b ∷ bytes) (suc at) = get_or-from bytes at

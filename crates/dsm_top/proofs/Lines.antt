@@ -1,75 +1,130 @@
--- Lines that are instructions, one each, and the first line that is none.
-use Rattle.std.proofs.Common.{◌≡◌, ℕ, zero, suc, ◌+◌, ◌-◌, ◌<◌, ◌≤◌, List, [], ◌∷◌, ◌++◌, Some, length, slice_get, refl, sym, ap, ◌∙◌, subst, arith}
+-- Lines of the form, and the first line that breaks it.
+use Rattle.std.proofs.Common.{◌≡◌, ℕ, zero, suc, ◌+◌, ◌-◌, ◌<◌, ◌≤◌, List, [], ◌∷◌, ◌++◌, Some, length, take, slice_get, length-append, append-nil, append_assoc, refl, sym, ap, ◌∙◌, subst, arith}
+use Rattle.std.proofs.Math.Seq.{take-append_seam}
 use Rattle.dsm_isa.specs.declared.instr.Instr.{Instr}
 use Rattle.dsm_top.specs.declared.text.fault.FaultKind.TheVariants.{NotYet, NoCode}
-use Rattle.dsm_top.specs.declared.text.fault.TextFault.{TextFault}
-use Rattle.dsm_top.specs.declared.text.fault.TextErr.{TextErr}
-use Rattle.dsm_top.specs.declared.text.fault.TextErr.TheVariants.{Refused, NoMemory}
-use Rattle.dsm_top.specs.Text.{lines_of, AreInstructions, IsDirective, IsInstruction, MayStand, StandBefore, IsFault}
-use Rattle.dsm_top.specs.TextFaults.{Refuses, RefusesInstruction}
+use Rattle.dsm_top.specs.declared.text.line.LineOf.{LineOf}
+use Rattle.dsm_top.specs.declared.text.line.LineOf.TheVariants.{Empty, Words, Does}
+use Rattle.dsm_top.specs.Text.{lines_of, IsLine, AreLines, instructions_of, memory_or, MayStand, InForm, StandsFor, BreaksForm, IsFault}
 
 -- one line more
-pub AreInstructions-snoc : (lines : List (List ℕ)) (code : List Instr) (line : List ℕ) (i : Instr) → AreInstructions lines code → IsInstruction line i → AreInstructions (lines ++ (line ∷ [])) (code ++ (i ∷ []))
-AreInstructions-snoc [] [] line i are is = (is, tt)
-AreInstructions-snoc (l ∷ lines) (x ∷ code) line i are is = (are.0, AreInstructions-snoc lines code line i are.1 is)
-AreInstructions-snoc [] (x ∷ code) line i are is = absurd are
-AreInstructions-snoc (l ∷ lines) [] line i are is = absurd are
+AreLines-snoc : (lines : List (List ℕ)) (are : List LineOf) (line : List ℕ) (is : LineOf) → AreLines lines are → IsLine line is → AreLines (lines ++ (line ∷ [])) (are ++ (is ∷ []))
+AreLines-snoc [] [] line is each last = (last, tt)
+AreLines-snoc (l ∷ lines) (x ∷ are) line is each last = (each.0, AreLines-snoc lines are line is each.1 last)
+AreLines-snoc [] (x ∷ are) line is each last = absurd each
+AreLines-snoc (l ∷ lines) [] line is each last = absurd each
 
-pub AreInstructions-length : (lines : List (List ℕ)) (code : List Instr) → AreInstructions lines code → length lines ≡ length code
-AreInstructions-length [] [] are = refl
-AreInstructions-length (l ∷ lines) (x ∷ code) are = ap suc (AreInstructions-length lines code are.1)
-AreInstructions-length [] (x ∷ code) are = absurd are
-AreInstructions-length (l ∷ lines) [] are = absurd are
+-- what holds of each element and those before it, and of one element more
+each-snoc : (are : List LineOf) (is : LineOf) (P : List LineOf → LineOf → Type 0) → ((k : ℕ) (x : LineOf) → slice_get are k ≡ Some x → P (take k are) x) → P are is → (k : ℕ) (x : LineOf) → slice_get (are ++ (is ∷ [])) k ≡ Some x → P (take k (are ++ (is ∷ []))) x
+each-snoc [] is P each last zero x e = let same : is ≡ x = cc in subst (P []) same last
+each-snoc [] is P each last (suc k) x e = absurd (cc e)
+each-snoc (a ∷ are) is P each last zero x e = each zero x e
+each-snoc (a ∷ are) is P each last (suc k) x e = each-snoc are is (λ before. P (a ∷ before)) (λ j y at. each (suc j) y at) last k x e
 
--- each of these lines is an instruction
-pub AreInstructions-at : (lines behind : List (List ℕ)) (code : List Instr) (k : ℕ) (l : List ℕ) → AreInstructions lines code → k < length code → slice_get (lines ++ behind) k ≡ Some l → (i : Instr) × IsInstruction l i
-AreInstructions-at [] behind [] k l are within e = absurd (omega arith)
-AreInstructions-at (x ∷ lines) behind (y ∷ code) zero l are within e = let same : x ≡ l = cc in (y, subst (λ s. IsInstruction s y) same are.0)
-AreInstructions-at (x ∷ lines) behind (y ∷ code) (suc k) l are within e = AreInstructions-at lines behind code k l are.1 (omega arith) e
-AreInstructions-at [] behind (y ∷ code) k l are within e = absurd are
-AreInstructions-at (x ∷ lines) behind [] k l are within e = absurd are
+InForm-snoc : (lines : List (List ℕ)) (are : List LineOf) (line : List ℕ) (is : LineOf) → InForm lines are → IsLine line is → MayStand are is → InForm (lines ++ (line ∷ [])) (are ++ (is ∷ []))
+InForm-snoc lines are line is form last may = record {
+  each = AreLines-snoc lines are line is form.each last;
+  stand = each-snoc are is MayStand form.stand may;
+}
+
+-- The line at a place is something, and so are those before it.
+pub AreLines-front : (m j : ℕ) (lines : List (List ℕ)) (are : List LineOf) (line : List ℕ) → AreLines (take m lines) are → j < m → slice_get lines j ≡ Some line → (is : LineOf) × (slice_get are j ≡ Some is) × IsLine line is × AreLines (take j lines) (take j are)
+AreLines-front m j [] are line each below at = absurd (cc at)
+AreLines-front zero j (l ∷ lines) are line each below at = absurd (omega arith)
+AreLines-front (suc m) j (l ∷ lines) [] line each below at = absurd each
+AreLines-front (suc m) zero (l ∷ lines) (x ∷ are) line each below at = let same : l ≡ line = cc in (x, refl, subst (λ s. IsLine s x) same each.0, tt)
+AreLines-front (suc m) (suc j) (l ∷ lines) (x ∷ are) line each below at =
+    let front = AreLines-front m j lines are line each.1 (omega arith) at in
+    (front.0, front.1, front.2, (each.0, front.3))
+
+instructions_of-append : (are more : List LineOf) → instructions_of (are ++ more) ≡ instructions_of are ++ instructions_of more
+instructions_of-append [] more = refl
+instructions_of-append (Empty ∷ are) more = instructions_of-append are more
+instructions_of-append (Words w ∷ are) more = instructions_of-append are more
+instructions_of-append (Does i ∷ are) more = ap (λ code. i ∷ code) (instructions_of-append are more)
+
+memory_or-append : (w : ℕ) (are more : List LineOf) → memory_or w (are ++ more) ≡ memory_or (memory_or w are) more
+memory_or-append w [] more = refl
+memory_or-append w (Empty ∷ are) more = memory_or-append w are more
+memory_or-append w (Words v ∷ are) more = memory_or-append v are more
+memory_or-append w (Does i ∷ are) more = memory_or-append w are more
+
+-- The first n lines were read, and the rest is left: they are in the form, and have this code and this memory.
+pub record HasRead (text rest : List ℕ) (n w : ℕ) (code : List Instr) : Type 0 where
+  pub before : List (List ℕ)
+  pub are : List LineOf
+  pub cut : lines_of text ≡ before ++ lines_of rest
+  pub number : length before ≡ n
+  pub in_form : InForm before are
+  pub words : memory_or 64 are ≡ w
+  pub instructions : instructions_of are ≡ code
+
+pub HasRead-nothing : (text : List ℕ) → HasRead text text 0 64 []
+HasRead-nothing text = record {
+  before = [];
+  are = [];
+  cut = refl;
+  number = refl;
+  in_form = record { each = tt; stand = λ k is e. absurd (cc e) };
+  words = refl;
+  instructions = refl;
+}
+
+-- one line more was read
+HasRead-line : (text rest behind line : List ℕ) (n w : ℕ) (code : List Instr) (is : LineOf) → HasRead text rest n w code → lines_of rest ≡ line ∷ lines_of behind → IsLine line is → ((before : List LineOf) → instructions_of before ≡ code → MayStand before is) → HasRead text behind (n + 1) (memory_or w (is ∷ [])) (code ++ instructions_of (is ∷ []))
+HasRead-line text rest behind line n w code is read cut last may =
+    let number = read.number in
+    record {
+      before = read.before ++ (line ∷ []);
+      are = read.are ++ (is ∷ []);
+      cut = read.cut ∙ ap (λ l. read.before ++ l) cut ∙ sym (append_assoc read.before (line ∷ []) (lines_of behind));
+      number = omega (arith, length-append read.before (line ∷ []));
+      in_form = InForm-snoc read.before read.are line is read.in_form last (may read.are read.instructions);
+      words = memory_or-append 64 read.are (is ∷ []) ∙ ap (λ v. memory_or v (is ∷ [])) read.words;
+      instructions = instructions_of-append read.are (is ∷ []) ∙ ap (λ c. c ++ instructions_of (is ∷ [])) read.instructions;
+    }
+
+pub HasRead-empty : (text rest behind line : List ℕ) (n w : ℕ) (code : List Instr) → HasRead text rest n w code → lines_of rest ≡ line ∷ lines_of behind → IsLine line Empty → HasRead text behind (n + 1) w code
+HasRead-empty text rest behind line n w code read cut last = subst (HasRead text behind (n + 1) w) (append-nil code) (HasRead-line text rest behind line n w code Empty read cut last (λ before same. tt))
+
+pub HasRead-words : (text rest behind line : List ℕ) (n w v : ℕ) (code : List Instr) → HasRead text rest n w code → lines_of rest ≡ line ∷ lines_of behind → IsLine line (Words v) → code ≡ [] → HasRead text behind (n + 1) v code
+HasRead-words text rest behind line n w v code read cut last none = subst (HasRead text behind (n + 1) v) (append-nil code) (HasRead-line text rest behind line n w code (Words v) read cut last (λ before same. same ∙ none))
+
+pub HasRead-does : (text rest behind line : List ℕ) (n w : ℕ) (code : List Instr) (i : Instr) → HasRead text rest n w code → lines_of rest ≡ line ∷ lines_of behind → IsLine line (Does i) → length code < 4096 → HasRead text behind (n + 1) w (code ++ (i ∷ []))
+HasRead-does text rest behind line n w code i read cut last room = HasRead-line text rest behind line n w code (Does i) read cut last (λ before same. omega (arith, ap length same))
 
 -- the line that follows
-pub slice_get-next : (lines behind : List (List ℕ)) (line : List ℕ) → slice_get (lines ++ (line ∷ behind)) (length lines) ≡ Some line
+slice_get-next : (lines behind : List (List ℕ)) (line : List ℕ) → slice_get (lines ++ (line ∷ behind)) (length lines) ≡ Some line
 slice_get-next [] behind line = refl
 slice_get-next (l ∷ lines) behind line = slice_get-next lines behind line
 
--- The line behind these, which may not stand there, is the first such one.
-pub RefusesInstruction-next : (lines before behind : List (List ℕ)) (line : List ℕ) (code : List Instr) (f : TextFault) → lines ≡ before ++ (line ∷ behind) → AreInstructions before code → length code ≤ 4096 → (MayStand (suc (length code)) line → ⊥) → f.line ≡ length code + 2 → f.kind ≡ NotYet → RefusesInstruction lines (Refused f)
-RefusesInstruction-next lines before behind line code f cut are most may_not at kind = (
-  length code,
-  line,
-  at,
-  kind,
-  ap (λ l. slice_get l (length code)) cut ∙ ap (slice_get (before ++ (line ∷ behind))) (sym (AreInstructions-length before code are)) ∙ slice_get-next before behind line,
-  may_not,
-  λ k l below e. (omega arith, AreInstructions-at before (line ∷ behind) code k l are below (sym (ap (λ s. slice_get s k) cut) ∙ e)),
-)
+-- The next line breaks the form.
+pub HasRead-breaks : (text rest behind line : List ℕ) (n w : ℕ) (code : List Instr) → HasRead text rest n w code → lines_of rest ≡ line ∷ lines_of behind → ((before : List LineOf) (is : LineOf) → instructions_of before ≡ code → IsLine line is → MayStand before is → ⊥) → IsFault text (n + 1) NotYet
+HasRead-breaks text rest behind line n w code read cut broken =
+    let lines : lines_of text ≡ read.before ++ (line ∷ lines_of behind) = read.cut ∙ ap (λ l. read.before ++ l) cut in
+    let place : length read.before ≡ (n + 1) - 1 = let number = read.number in omega arith in
+    let breaks : BreaksForm (lines_of text) (length read.before) = record {
+      before = read.are;
+      in_form = subst (λ ls. InForm ls read.are) (sym (ap (take (length read.before)) lines ∙ take-append_seam read.before (line ∷ lines_of behind))) read.in_form;
+      line = line;
+      at = ap (λ ls. slice_get ls (length read.before)) lines ∙ slice_get-next read.before (lines_of behind) line;
+      broken = λ is last may. broken read.are is read.instructions last may;
+    } in
+    (omega arith, subst (BreaksForm (lines_of text)) place breaks)
 
--- The first line is the directive, and each of these lines behind it is an instruction.
-pub stands-at : (first : List ℕ) (others : List (List ℕ)) (w j : ℕ) → IsDirective first w → ((i : ℕ) (l : List ℕ) → i < j → slice_get others i ≡ Some l → MayStand (suc i) l) → (i : ℕ) (l : List ℕ) → i < suc j → slice_get (first ∷ others) i ≡ Some l → MayStand i l
-stands-at first others w j d before zero l below e = let same : first ≡ l = cc in (w, subst (λ s. IsDirective s w) same d)
-stands-at first others w j d before (suc i) l below e = before i l (omega arith) e
+-- All lines were read.
+HasRead-form : (text : List ℕ) (n w : ℕ) (code : List Instr) (read : HasRead text [] n w code) → InForm (lines_of text) read.are
+HasRead-form text n w code read = subst (λ ls. InForm ls read.are) (sym (read.cut ∙ append-nil read.before)) read.in_form
 
-IsFault-behind : (text first line : List ℕ) (others : List (List ℕ)) (w j n : ℕ) → lines_of text ≡ first ∷ others → IsDirective first w → n ≡ j + 2 → slice_get others j ≡ Some line → (MayStand (suc j) line → ⊥) → ((i : ℕ) (l : List ℕ) → i < j → slice_get others i ≡ Some l → MayStand (suc i) l) → IsFault text n NotYet
-IsFault-behind text first line others w j n cut d at got may_not before =
-    let place : n - 1 ≡ suc j = omega arith in
-    let stand : StandBefore (lines_of text) (suc j) = subst (λ ls. StandBefore ls (suc j)) (sym cut) (stands-at first others w j d before) in
-    (line, omega arith, ap (slice_get (lines_of text)) place ∙ ap (λ ls. slice_get ls (suc j)) cut ∙ got, (λ m. may_not (subst (λ k. MayStand k line) place m)), subst (StandBefore (lines_of text)) (sym place) stand)
+pub HasRead-program : (text : List ℕ) (n w : ℕ) (code : List Instr) → HasRead text [] n w code → 0 < length code → length code ≤ 4096 → StandsFor text w code
+HasRead-program text n w code read some most = record {
+  are = read.are;
+  in_form = HasRead-form text n w code read;
+  words = read.words;
+  instructions = read.instructions;
+  some = some;
+  most = most;
+}
 
--- Behind a directive the first line that is no instruction is the text's first fault.
-pub Refuses-behind : (text first : List ℕ) (others : List (List ℕ)) (w : ℕ) (e : TextErr) → lines_of text ≡ first ∷ others → IsDirective first w → RefusesInstruction others e → Refuses text e
-Refuses-behind text first others w (Refused f) cut d h = subst (IsFault text f.line) (sym h.3) (IsFault-behind text first h.1 others w h.0 f.line cut d h.2 h.4 h.5 h.6)
-Refuses-behind text first others w NoMemory cut d h = tt
-
--- A directive alone has no instruction.
-pub NoCode-behind : (text first : List ℕ) (others : List (List ℕ)) (w : ℕ) (code : List Instr) → lines_of text ≡ first ∷ others → IsDirective first w → AreInstructions others code → code ≡ [] → IsFault text 1 NoCode
-NoCode-behind text first others w code cut d are empty =
-    let none : length others ≡ 0 = AreInstructions-length others code are ∙ ap length empty in
-    let stand = stands-at first others w (length others) d (λ i l below e. absurd (omega arith)) in
-    let both : (length (lines_of text) ≤ 1) × StandBefore (lines_of text) (length (lines_of text)) = subst (λ ls. (length ls ≤ 1) × StandBefore ls (length ls)) (sym cut) (omega arith, stand) in
-    (refl, both.0, both.1)
-
--- A first line that is no directive is the first fault.
-pub IsFault-first : (text first : List ℕ) (others : List (List ℕ)) → lines_of text ≡ first ∷ others → ((w : ℕ) → IsDirective first w → ⊥) → IsFault text 1 NotYet
-IsFault-first text first others cut none = (first, omega arith, ap (λ ls. slice_get ls 0) cut, (λ m. none m.0 m.1), λ i l below e. absurd (omega arith))
+pub HasRead-no_code : (text : List ℕ) (n w : ℕ) (code : List Instr) → HasRead text [] n w code → code ≡ [] → IsFault text 1 NoCode
+HasRead-no_code text n w code read none = (refl, (read.are, HasRead-form text n w code read, read.instructions ∙ none))

@@ -1,14 +1,17 @@
 -- A text means one thing at most: one program, or one first fault.
-use Rattle.std.proofs.Common.{◌≡◌, ℕ, suc, ◌-◌, ◌<◌, List, [], ◌∷◌, length, slice_get, get_or, drop, decimal, refl, sym, ap, ◌∙◌, subst, append-nil, arith}
+use Rattle.std.proofs.Common.{◌≡◌, ℕ, ◌-◌, ◌<◌, List, [], ◌∷◌, length, take, get_or, drop, decimal, refl, sym, ap, ◌∙◌, subst, arith}
+use Rattle.std.proofs.Math.Seq.{take-length}
 use Rattle.std.proofs.lemmas.Fmt.{decimal_injective}
 use Rattle.std.proofs.lemmas.Option.{slice_get_within}
 use Rattle.dsm_isa.specs.declared.instr.Instr.{Instr}
 use Rattle.dsm_isa.specs.declared.instr.Instr.TheVariants.{Li, Ld, St, Out, Halt}
 use Rattle.dsm_top.specs.declared.text.fault.FaultKind.TheVariants.{NotYet, NoCode}
-use Rattle.dsm_top.specs.Text.{lines_of, register, spelling, InRange, IsDirective, AreInstructions, StandsFor, StandBefore, IsFault}
+use Rattle.dsm_top.specs.declared.text.line.LineOf.{LineOf}
+use Rattle.dsm_top.specs.declared.text.line.LineOf.TheVariants.{Empty, Words, Does}
+use Rattle.dsm_top.specs.Text.{lines_of, register, spelling, InRange, line_spelling, LineInRange, AreLines, instructions_of, memory_or, MayStand, InForm, StandsFor, BreaksForm}
 use Rattle.dsm_top.specs.TextFaults.{OneProgram, NoFaultOfPrograms, OneFault}
-use Rattle.dsm_top.proofs.Spelling.{Spells-li, Spells-ld, Spells-st, Spells-out, Spells-halt}
-use Rattle.dsm_top.proofs.Lines.{AreInstructions-length, AreInstructions-at, stands-at}
+use Rattle.dsm_top.proofs.Spelling.{Spells-li, Spells-ld, Spells-st, Spells-out, Spells-halt, spelling-no_directive, spelling-some}
+use Rattle.dsm_top.proofs.Lines.{AreLines-front}
 
 abbrev word : ℕ → List (List ℕ) → List ℕ
 word k words = get_or words k []
@@ -40,58 +43,59 @@ spelling_injective (Out d) j r s e =
     ap Out (register_injective d w.0 r w.3 (ap (word 0) w.2)) ∙ sym w.1
 spelling_injective Halt j r s e = sym (Spells-halt [] j (record { spelling_is = sym e; range = s })).0
 
--- the same lines are the same code
-AreInstructions-same : (lines : List (List ℕ)) (code other : List Instr) → AreInstructions lines code → AreInstructions lines other → code ≡ other
-AreInstructions-same [] [] [] are is = refl
-AreInstructions-same (l ∷ lines) (i ∷ code) (j ∷ other) are is =
-    ap (λ x. x ∷ code) (spelling_injective i j are.0.range is.0.range (sym are.0.words ∙ is.0.words)) ∙ ap (λ xs. j ∷ xs) (AreInstructions-same lines code other are.1 is.1)
-AreInstructions-same [] (i ∷ code) other are is = absurd are
-AreInstructions-same [] [] (j ∷ other) are is = absurd is
-AreInstructions-same (l ∷ lines) [] other are is = absurd are
-AreInstructions-same (l ∷ lines) (i ∷ code) [] are is = absurd is
+-- lines with the same words are the same
+line_spelling_injective : (l m : LineOf) → LineInRange l → LineInRange m → line_spelling l ≡ line_spelling m → l ≡ m
+line_spelling_injective Empty Empty r s e = refl
+line_spelling_injective (Words w) (Words v) r s e =
+    let small_w = r.1 in
+    let small_v = s.1 in
+    ap Words (decimal_injective w v (omega arith) (omega arith) (ap (word 1) e))
+line_spelling_injective (Does i) (Does j) r s e = ap Does (spelling_injective i j r s e)
+line_spelling_injective Empty (Words v) r s e = absurd (cc e)
+line_spelling_injective (Words w) Empty r s e = absurd (cc e)
+line_spelling_injective Empty (Does j) r s e = absurd (spelling-some j (sym e))
+line_spelling_injective (Does i) Empty r s e = absurd (spelling-some i e)
+line_spelling_injective (Words w) (Does j) r s e = absurd (spelling-no_directive (decimal w ∷ []) j (sym e))
+line_spelling_injective (Does i) (Words v) r s e = absurd (spelling-no_directive (decimal v ∷ []) i e)
 
-IsDirective-same : (line : List ℕ) (w v : ℕ) → IsDirective line w → IsDirective line v → w ≡ v
-IsDirective-same line w v d e =
-    let small_w = d.range.1 in
-    let small_v = e.range.1 in
-    decimal_injective w v (omega arith) (omega arith) (ap (word 1) (sym d.words ∙ e.words))
+-- lines are one thing at most
+AreLines-same : (lines : List (List ℕ)) (are other : List LineOf) → AreLines lines are → AreLines lines other → are ≡ other
+AreLines-same [] [] [] each too = refl
+AreLines-same (l ∷ lines) (x ∷ are) (y ∷ other) each too =
+    ap (λ z. z ∷ are) (line_spelling_injective x y each.0.range too.0.range (sym each.0.words ∙ too.0.words)) ∙ ap (λ zs. y ∷ zs) (AreLines-same lines are other each.1 too.1)
+AreLines-same [] (x ∷ are) other each too = absurd each
+AreLines-same [] [] (y ∷ other) each too = absurd too
+AreLines-same (l ∷ lines) [] other each too = absurd each
+AreLines-same (l ∷ lines) (x ∷ are) [] each too = absurd too
 
 pub one_program : OneProgram
 one_program text w v code other s t =
-    let cut = sym s.lines.2 ∙ t.lines.2 in
-    let first : s.lines.0 ≡ t.lines.0 = ap (λ ls. get_or ls 0 []) cut in
-    let others : s.lines.1 ≡ t.lines.1 = ap (drop 1) cut in (
-      IsDirective-same t.lines.0 w v (subst (λ l. IsDirective l w) first s.lines.3) t.lines.3,
-      AreInstructions-same t.lines.1 code other (subst (λ ls. AreInstructions ls code) others s.lines.4) t.lines.4,
-    )
+    let same = AreLines-same (lines_of text) s.are t.are s.in_form.each t.in_form.each in
+    (sym s.words ∙ ap (memory_or 64) same ∙ t.words, sym s.instructions ∙ ap instructions_of same ∙ t.instructions)
 
--- each line of a program may stand where it stands
-StandsFor-stands : (text : List ℕ) (w : ℕ) (code : List Instr) → StandsFor text w code → (length (lines_of text) ≡ suc (length code)) × StandBefore (lines_of text) (suc (length code))
-StandsFor-stands text w code s =
-    let others = s.lines.1 in
-    let most = s.most in
-    let len : length (lines_of text) ≡ suc (length code) = ap length s.lines.2 ∙ ap suc (AreInstructions-length others code s.lines.4) in
-    let stand = stands-at s.lines.0 others w (length code) s.lines.3 (λ i l below e. (omega arith, AreInstructions-at others [] code i l s.lines.4 below (ap (λ ls. slice_get ls i) (append-nil others) ∙ e))) in
-    (len, subst (λ ls. StandBefore ls (suc (length code))) (sym s.lines.2) stand)
+-- No line among those in the form breaks it.
+in_form_unbroken : (lines : List (List ℕ)) (are : List LineOf) (m j : ℕ) → InForm (take m lines) are → j < m → BreaksForm lines j → ⊥
+in_form_unbroken lines are m j form below breaks =
+    let front = AreLines-front m j lines are breaks.line form.each below breaks.at in
+    let same : take j are ≡ breaks.before = AreLines-same (take j lines) (take j are) breaks.before front.3 breaks.in_form.each in
+    breaks.broken front.0 front.2 (subst (λ before. MayStand before front.0) same (form.stand j front.0 front.1))
+
+all_unbroken : (lines : List (List ℕ)) (are : List LineOf) (j : ℕ) → InForm lines are → BreaksForm lines j → ⊥
+all_unbroken lines are j form breaks =
+    in_form_unbroken lines are (length lines) j (subst (λ ls. InForm ls are) (sym (take-length lines)) form) (slice_get_within lines j breaks.line breaks.at) breaks
 
 pub no_fault_of_programs : NoFaultOfPrograms
-no_fault_of_programs text w n code NotYet s f =
-    let stand = StandsFor-stands text w code s in
-    let within = slice_get_within (lines_of text) (n - 1) f.0 f.2 in
-    f.3 (stand.1 (n - 1) f.0 (omega (arith, within, stand.0)) f.2)
+no_fault_of_programs text w n code NotYet s f = all_unbroken (lines_of text) s.are (n - 1) s.in_form f.1
 no_fault_of_programs text w n code NoCode s f =
-    let stand = StandsFor-stands text w code s in
-    omega (arith, stand.0, f.1, s.some)
-
--- a line that may not stand where it stands, and no such line
-NotYet-NoCode : (text : List ℕ) (n m : ℕ) → IsFault text n NotYet → IsFault text m NoCode → ⊥
-NotYet-NoCode text n m f g = f.3 (g.2 (n - 1) f.0 (slice_get_within (lines_of text) (n - 1) f.0 f.2) f.2)
+    let same = AreLines-same (lines_of text) s.are f.1.0 s.in_form.each f.1.1.each in
+    let none : code ≡ [] = sym s.instructions ∙ ap instructions_of same ∙ f.1.2 in
+    omega (arith, ap length none, s.some)
 
 pub one_fault : OneFault
 one_fault text n m NotYet NotYet f g =
-    let not_less : n - 1 < m - 1 → ⊥ = λ less. f.3 (g.4 (n - 1) f.0 less f.2) in
-    let not_more : m - 1 < n - 1 → ⊥ = λ more. g.3 (f.4 (m - 1) g.0 more g.2) in
-    (omega (arith, not_less, not_more, f.1, g.1), refl)
+    let not_less : n - 1 < m - 1 → ⊥ = λ less. in_form_unbroken (lines_of text) g.1.before (m - 1) (n - 1) g.1.in_form less f.1 in
+    let not_more : m - 1 < n - 1 → ⊥ = λ more. in_form_unbroken (lines_of text) f.1.before (n - 1) (m - 1) f.1.in_form more g.1 in
+    (omega (arith, not_less, not_more, f.0, g.0), refl)
 one_fault text n m NoCode NoCode f g = (f.0 ∙ sym g.0, refl)
-one_fault text n m NotYet NoCode f g = absurd (NotYet-NoCode text n m f g)
-one_fault text n m NoCode NotYet f g = absurd (NotYet-NoCode text m n g f)
+one_fault text n m NotYet NoCode f g = absurd (all_unbroken (lines_of text) g.1.0 (n - 1) g.1.1 f.1)
+one_fault text n m NoCode NotYet f g = absurd (all_unbroken (lines_of text) f.1.0 (m - 1) f.1.1 g.1)

@@ -5,7 +5,8 @@ use Rattle.std.proofs.lemmas.Str.{IsUtf8-from_ascii}
 use Rattle.std.proofs.lemmas.Fmt.{IsAscii-decimal}
 use Rattle.dsm_isa.specs.declared.instr.Instr.{Instr}
 use Rattle.dsm_isa.specs.declared.instr.Instr.TheVariants.{Li, Ld, St, Out, Halt}
-use Rattle.dsm_top.specs.Text.{register, Spells}
+use Rattle.dsm_top.specs.Text.{register, spelling}
+use Rattle.dsm_top.specs.Spells.{Spells}
 
 -- what spells a number is text
 pub IsUtf8-number : (word : List ℕ) (n : ℕ) → n < 2 ^ 64 → word ≡ decimal n → IsUtf8 word
@@ -44,6 +45,21 @@ Spells-out words _ s = absurd (omega (arith, ap second_byte s.spelling_is))
 pub Spells-halt : (words : List (List ℕ)) (i : Instr) → Spells (codes "halt") words i → (i ≡ Halt) × (words ≡ [])
 Spells-halt words Halt s = (refl, sym (ap (drop 1) s.spelling_is))
 Spells-halt words _ s = absurd (omega (arith, ap second_byte s.spelling_is))
+
+-- No instruction is spelt like the directive, or by no word.
+pub spelling-no_directive : (words : List (List ℕ)) (i : Instr) → spelling i ≡ codes ".words" ∷ words → ⊥
+spelling-no_directive words (Li d k) e = omega (arith, ap second_byte e)
+spelling-no_directive words (Ld d a k) e = omega (arith, ap second_byte e)
+spelling-no_directive words (St d a k) e = omega (arith, ap second_byte e)
+spelling-no_directive words (Out d) e = omega (arith, ap second_byte e)
+spelling-no_directive words Halt e = omega (arith, ap second_byte e)
+
+pub spelling-some : (i : Instr) → spelling i ≡ [] → ⊥
+spelling-some (Li d k) e = cc
+spelling-some (Ld d a k) e = cc
+spelling-some (St d a k) e = cc
+spelling-some (Out d) e = cc
+spelling-some Halt e = cc
 
 -- what a test of a number answers
 pub no_value : {E : Type 0} (r : Result ℕ E) (P : Type 0) (v : ℕ) → OkIff r P v → None ≡ result_ok r → P → ⊥

@@ -1,9 +1,11 @@
 -- The text of a program, by whole lines: which texts are in the form, and which program each stands for.
-use Rattle.std.specs.Prelude.{◌≡◌, ℕ, zero, suc, ◌-◌, ◌<◌, ◌≤◌, ◌^◌, ◌==◌, if◌then◌else◌, List, [], ◌∷◌, length, codes, decimal, Option, None, Some, slice_get}
+use Rattle.std.specs.Prelude.{◌≡◌, ℕ, ◌-◌, ◌<◌, ◌≤◌, ◌^◌, ◌==◌, ◌||◌, Bool, true, false, if◌then◌else◌, List, [], ◌∷◌, length, take, filter, codes, decimal, Some, slice_get}
 use Rattle.dsm_isa.specs.declared.instr.Instr.{Instr}
 use Rattle.dsm_isa.specs.declared.instr.Instr.TheVariants.{Li, Ld, St, Out, Halt}
 use Rattle.dsm_top.specs.declared.text.fault.FaultKind.{FaultKind}
 use Rattle.dsm_top.specs.declared.text.fault.FaultKind.TheVariants.{NotYet, NoCode}
+use Rattle.dsm_top.specs.declared.text.line.LineOf.{LineOf}
+use Rattle.dsm_top.specs.declared.text.line.LineOf.TheVariants.{Empty, Words, Does}
 
 -- the byte goes onto the first piece
 abbrev pub onto : ℕ → List (List ℕ) → List (List ℕ)
@@ -16,10 +18,27 @@ abbrev pub lines_of : List ℕ → List (List ℕ)
 lines_of [] = []
 lines_of (b ∷ bytes) = if b == 10 then [] ∷ lines_of bytes else onto b (lines_of bytes)
 
--- the words of a line: it is cut at each space
+-- the content of a line: what stands before the first semicolon; the rest is comment
+abbrev pub content_of : List ℕ → List ℕ
+content_of [] = []
+content_of (b ∷ bytes) = if b == 59 then [] else b ∷ content_of bytes
+
+-- a blank is a space, a tab or a carriage return
+abbrev pub is_blank : ℕ → Bool
+is_blank b = (b == 32) || (b == 9) || (b == 13)
+
+-- the pieces of some bytes, which are cut at each blank
+abbrev pub pieces_of : List ℕ → List (List ℕ)
+pieces_of [] = [] ∷ []
+pieces_of (b ∷ bytes) = if is_blank b then [] ∷ pieces_of bytes else onto b (pieces_of bytes)
+
+abbrev pub is_some_piece : List ℕ → Bool
+is_some_piece [] = false
+is_some_piece (b ∷ bytes) = true
+
+-- the words: the pieces that are not empty
 abbrev pub words_of : List ℕ → List (List ℕ)
-words_of [] = [] ∷ []
-words_of (b ∷ bytes) = if b == 32 then [] ∷ words_of bytes else onto b (words_of bytes)
+words_of bytes = filter is_some_piece (pieces_of bytes)
 
 -- a register is the letter r with its number
 abbrev pub register : ℕ → List ℕ
@@ -41,52 +60,75 @@ InRange (St s a k) = (s < 16) × (a < 16) × (k < 2 ^ 64)
 InRange (Out s) = s < 16
 InRange Halt = Unit {0}
 
--- these are the words behind the first one, where there is something behind the first space
-abbrev pub words_left : Option (List ℕ) → List (List ℕ)
-words_left None = []
-words_left (Some rest) = words_of rest
+-- the words of a line that is this
+abbrev pub line_spelling : LineOf → List (List ℕ)
+line_spelling Empty = []
+line_spelling (Words w) = codes ".words" ∷ decimal w ∷ []
+line_spelling (Does i) = spelling i
 
--- the instruction is spelt by this name with these words behind it
-pub record Spells (name : List ℕ) (words : List (List ℕ)) (i : Instr) : Type 0 where
-  pub spelling_is : spelling i ≡ name ∷ words
-  pub range : InRange i
+-- its numbers exist; a memory has 1 to 256 words
+abbrev pub LineInRange : LineOf → Type 0
+LineInRange Empty = Unit {0}
+LineInRange (Words w) = (0 < w) × (w ≤ 256)
+LineInRange (Does i) = InRange i
 
--- the line is this instruction
-pub record IsInstruction (line : List ℕ) (i : Instr) : Type 0 where
+-- the line is this: it is no longer than 200 bytes, and its content has these words
+pub record IsLine (line : List ℕ) (is : LineOf) : Type 0 where
   pub short : length line ≤ 200
-  pub words : words_of line ≡ spelling i
-  pub range : InRange i
+  pub words : words_of (content_of line) ≡ line_spelling is
+  pub range : LineInRange is
 
--- the line says that the memory has w words
-pub record IsDirective (line : List ℕ) (w : ℕ) : Type 0 where
-  pub short : length line ≤ 200
-  pub words : words_of line ≡ codes ".words" ∷ decimal w ∷ []
-  pub range : (0 < w) × (w ≤ 256)
+-- each of the lines is what stands at its place in the list
+abbrev pub AreLines : List (List ℕ) → List LineOf → Type 0
+AreLines [] [] = Unit {0}
+AreLines (line ∷ lines) (is ∷ are) = IsLine line is × AreLines lines are
+AreLines _ _ = ⊥
 
--- these lines are these instructions, one each
-abbrev pub AreInstructions : List (List ℕ) → List Instr → Type 0
-AreInstructions [] [] = Unit {0}
-AreInstructions (line ∷ lines) (i ∷ code) = IsInstruction line i × AreInstructions lines code
-AreInstructions _ _ = ⊥
+-- the instructions among the lines, in order
+abbrev pub instructions_of : List LineOf → List Instr
+instructions_of [] = []
+instructions_of (Does i ∷ lines) = i ∷ instructions_of lines
+instructions_of (_ ∷ lines) = instructions_of lines
 
--- The text is in the form, and stands for the program with w words of memory and this code: the first
--- line is the directive, and each other line is an instruction.
+-- how many words of memory the last `.words` among the lines asks for, or w where there is none
+abbrev pub memory_or : ℕ → List LineOf → ℕ
+memory_or w [] = w
+memory_or w (Words v ∷ lines) = memory_or v lines
+memory_or w (_ ∷ lines) = memory_or w lines
+
+-- Behind these lines this one may stand: a `.words` behind no instruction, and an instruction behind fewer
+-- than 4,096.
+abbrev pub MayStand : List LineOf → LineOf → Type 0
+MayStand before Empty = Unit {0}
+MayStand before (Words w) = instructions_of before ≡ []
+MayStand before (Does i) = length (instructions_of before) < 4096
+
+-- the lines are these, and each may stand behind those before it
+pub record InForm (lines : List (List ℕ)) (are : List LineOf) : Type 0 where
+  pub each : AreLines lines are
+  pub stand : (k : ℕ) (is : LineOf) → slice_get are k ≡ Some is → MayStand (take k are) is
+
+-- The text is in the form, and stands for the program with w words of memory, 64 where it doesn't say, and
+-- this code.
 pub record StandsFor (text : List ℕ) (w : ℕ) (code : List Instr) : Type 0 where
-  pub lines : (first : List ℕ) × (others : List (List ℕ)) × (lines_of text ≡ first ∷ others) × IsDirective first w × AreInstructions others code
+  pub are : List LineOf
+  pub in_form : InForm (lines_of text) are
+  pub words : memory_or 64 are ≡ w
+  pub instructions : instructions_of are ≡ code
   pub some : 0 < length code
   pub most : length code ≤ 4096
 
--- the line may stand at this place, from 0, of a text in the form
-abbrev pub MayStand : ℕ → List ℕ → Type 0
-MayStand zero line = (w : ℕ) × IsDirective line w
-MayStand (suc j) line = (j < 4096) × ((i : Instr) × IsInstruction line i)
+-- The line at place j, from 0, is the first that breaks the form: the lines before it are in the form, and
+-- it is nothing that may stand behind them.
+pub record BreaksForm (lines : List (List ℕ)) (j : ℕ) : Type 0 where
+  pub before : List LineOf
+  pub in_form : InForm (take j lines) before
+  pub line : List ℕ
+  pub at : slice_get lines j ≡ Some line
+  pub broken : (is : LineOf) → IsLine line is → MayStand before is → ⊥
 
--- each of the first n lines may stand where it stands
-abbrev pub StandBefore : List (List ℕ) → ℕ → Type 0
-StandBefore lines n = (i : ℕ) (line : List ℕ) → i < n → slice_get lines i ≡ Some line → MayStand i line
-
--- The first fault of the text is on this line, numbered from 1. A line that the form doesn't have yet
--- comes before the fault of a text that has no instruction.
+-- The first fault of the text is on this line, numbered from 1: the first line that breaks the form, or
+-- line 1 of a text that is in the form and has no instruction.
 abbrev pub IsFault : List ℕ → ℕ → FaultKind → Type 0
-IsFault text n NotYet = (line : List ℕ) × (1 ≤ n) × (slice_get (lines_of text) (n - 1) ≡ Some line) × (MayStand (n - 1) line → ⊥) × StandBefore (lines_of text) (n - 1)
-IsFault text n NoCode = (n ≡ 1) × (length (lines_of text) ≤ 1) × StandBefore (lines_of text) (length (lines_of text))
+IsFault text n NotYet = (1 ≤ n) × BreaksForm (lines_of text) (n - 1)
+IsFault text n NoCode = (n ≡ 1) × ((are : List LineOf) × InForm (lines_of text) are × (instructions_of are ≡ []))

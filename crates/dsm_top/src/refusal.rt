@@ -21,7 +21,7 @@ pub fn refuse_word(k: u64) -> Line
 
 /// The answer to a text that is refused at line `n`, from 1, or 0 for the whole text. It takes no memory.
 #[tactic(auto, unfolding(crate::specs::Report::refused_line))]
-pub fn refuse_line(n: u32, kind: &str) -> Line
+pub fn refuse_line(n: u64, kind: &str) -> Line
     requires { length kind.now ≤ 20 }
     ensures { result.bytes ≡ refused_line n kind.now }
 {

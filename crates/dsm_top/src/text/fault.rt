@@ -6,7 +6,7 @@ use std::alloc::{AllocError, AllocFailed};
 /// What is wrong with a text at the line that is named with it.
 #[derive(Clone, Copy, Debug, PartialEq, Eq)]
 pub enum FaultKind {
-    /// The line is none that the form has yet.
+    /// The line is none that may stand there.
     NotYet,
     /// The text has no instruction. It is named with line 1.
     NoCode,
@@ -28,7 +28,7 @@ impl FaultKind {
 /// The first fault of a text: its line, from 1, and what is wrong there.
 #[derive(Clone, Copy, Debug, PartialEq, Eq)]
 pub struct TextFault {
-    pub line: u32,
+    pub line: u64,
     pub kind: FaultKind,
 }
 

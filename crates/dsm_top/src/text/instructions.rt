@@ -1,27 +1,17 @@
-ghost use Rattle.std.specs.Prelude.{◌≡◌, ℕ, ◌<◌, ◌≤◌, List, IfSome, IfNone, codes};
-ghost use Rattle.std.specs.Option.{option_copied};
+ghost use Rattle.std.specs.Prelude.{◌≡◌, IfSome, IfNone, codes};
 ghost use Rattle.dsm_isa.specs.declared.instr.Instr.{Instr as isa_instr};
-ghost use Rattle.dsm_top.specs.Text.{IsInstruction, IsDirective, Spells, words_left};
+ghost use Rattle.dsm_top.specs.Text.{words_of};
+ghost use Rattle.dsm_top.specs.Spells.{Spells};
 
-use crate::text::cutting::first_word;
+use crate::text::cutting::next_word;
 use crate::text::operands::{last_number, last_register, next_register};
 use dsm_isa::instr::Instr;
 
-/// The most bytes of a line, without its line feed.
-pub const MOST_LINE: usize = 200;
-
-/// The most words that a memory has: one page of them.
-pub const MOST_WORDS: u64 = 256;
-
-/// The instruction that the line is.
-pub fn instruction(line: &[u8]) -> Option<Instr>
-    ensures some { IfSome result (λ i. IsInstruction line.now i) }
-    ensures none { IfNone result ((i : isa_instr) → IsInstruction line.now i → ⊥) }
+/// The instruction of this name with the words that stand behind it.
+pub fn instruction(name: &[u8], rest: &[u8]) -> Option<Instr>
+    ensures some { IfSome result (λ i. Spells name.now (words_of rest.now) i) }
+    ensures none { IfNone result ((i : isa_instr) → Spells name.now (words_of rest.now) i → ⊥) }
 {
-    if line.len() > MOST_LINE {
-        return None;
-    }
-    let (name, rest) = first_word(line);
     match name {
         b"li" => load_number(rest),
         b"ld" => load_word(rest),
@@ -32,28 +22,9 @@ pub fn instruction(line: &[u8]) -> Option<Instr>
     }
 }
 
-/// The words of memory that the line asks for.
-pub fn directive(line: &[u8]) -> Option<u32>
-    ensures some { IfSome result (λ w. IsDirective line.now w) }
-    ensures none { IfNone result ((w : ℕ) → IsDirective line.now w → ⊥) }
-{
-    if line.len() > MOST_LINE {
-        return None;
-    }
-    let (name, rest) = first_word(line);
-    if name != b".words".as_slice() {
-        return None;
-    }
-    let words = last_number(rest)?;
-    if words == 0 || words > MOST_WORDS {
-        return None;
-    }
-    Some(words as u32)
-}
-
-fn load_number(rest: Option<&[u8]>) -> Option<Instr>
-    ensures some { IfSome result (λ i. Spells (codes "li") (words_left (option_copied rest.entry)) i) }
-    ensures none { IfNone result ((i : isa_instr) → Spells (codes "li") (words_left (option_copied rest.entry)) i → ⊥) }
+fn load_number(rest: &[u8]) -> Option<Instr>
+    ensures some { IfSome result (λ i. Spells (codes "li") (words_of rest.now) i) }
+    ensures none { IfNone result ((i : isa_instr) → Spells (codes "li") (words_of rest.now) i → ⊥) }
 {
     match next_register(rest) {
         Some((d, rest)) => match last_number(rest) {
@@ -64,9 +35,9 @@ fn load_number(rest: Option<&[u8]>) -> Option<Instr>
     }
 }
 
-fn load_word(rest: Option<&[u8]>) -> Option<Instr>
-    ensures some { IfSome result (λ i. Spells (codes "ld") (words_left (option_copied rest.entry)) i) }
-    ensures none { IfNone result ((i : isa_instr) → Spells (codes "ld") (words_left (option_copied rest.entry)) i → ⊥) }
+fn load_word(rest: &[u8]) -> Option<Instr>
+    ensures some { IfSome result (λ i. Spells (codes "ld") (words_of rest.now) i) }
+    ensures none { IfNone result ((i : isa_instr) → Spells (codes "ld") (words_of rest.now) i → ⊥) }
 {
     match next_register(rest) {
         Some((d, rest)) => match next_register(rest) {
@@ -80,9 +51,9 @@ fn load_word(rest: Option<&[u8]>) -> Option<Instr>
     }
 }
 
-fn store_word(rest: Option<&[u8]>) -> Option<Instr>
-    ensures some { IfSome result (λ i. Spells (codes "st") (words_left (option_copied rest.entry)) i) }
-    ensures none { IfNone result ((i : isa_instr) → Spells (codes "st") (words_left (option_copied rest.entry)) i → ⊥) }
+fn store_word(rest: &[u8]) -> Option<Instr>
+    ensures some { IfSome result (λ i. Spells (codes "st") (words_of rest.now) i) }
+    ensures none { IfNone result ((i : isa_instr) → Spells (codes "st") (words_of rest.now) i → ⊥) }
 {
     match next_register(rest) {
         Some((s, rest)) => match next_register(rest) {
@@ -96,9 +67,9 @@ fn store_word(rest: Option<&[u8]>) -> Option<Instr>
     }
 }
 
-fn output(rest: Option<&[u8]>) -> Option<Instr>
-    ensures some { IfSome result (λ i. Spells (codes "out") (words_left (option_copied rest.entry)) i) }
-    ensures none { IfNone result ((i : isa_instr) → Spells (codes "out") (words_left (option_copied rest.entry)) i → ⊥) }
+fn output(rest: &[u8]) -> Option<Instr>
+    ensures some { IfSome result (λ i. Spells (codes "out") (words_of rest.now) i) }
+    ensures none { IfNone result ((i : isa_instr) → Spells (codes "out") (words_of rest.now) i → ⊥) }
 {
     match last_register(rest) {
         Some(s) => Some(Instr::Out { s }),
@@ -106,11 +77,11 @@ fn output(rest: Option<&[u8]>) -> Option<Instr>
     }
 }
 
-fn halt(rest: Option<&[u8]>) -> Option<Instr>
-    ensures some { IfSome result (λ i. Spells (codes "halt") (words_left (option_copied rest.entry)) i) }
-    ensures none { IfNone result ((i : isa_instr) → Spells (codes "halt") (words_left (option_copied rest.entry)) i → ⊥) }
+fn halt(rest: &[u8]) -> Option<Instr>
+    ensures some { IfSome result (λ i. Spells (codes "halt") (words_of rest.now) i) }
+    ensures none { IfNone result ((i : isa_instr) → Spells (codes "halt") (words_of rest.now) i → ⊥) }
 {
-    match rest {
+    match next_word(rest) {
         None => Some(Instr::Halt),
         Some(_) => None,
     }

@@ -1,8 +1,7 @@
 ghost use Rattle.std.specs.Prelude.{◌≡◌, ℕ, ◌<◌, ◌^◌, List, [], ◌∷◌, decimal, IsTrue, IfSome, IfNone, ◌↔◌};
-ghost use Rattle.std.specs.Option.{option_copied};
-ghost use Rattle.dsm_top.specs.Text.{register as register_word, words_left};
+ghost use Rattle.dsm_top.specs.Text.{register as register_word, words_of};
 
-use crate::text::cutting::first_word;
+use crate::text::cutting::next_word;
 use dsm_isa::reg::Reg;
 use itoa::Buffer;
 use std::str;
@@ -32,12 +31,12 @@ pub fn register(word: &[u8]) -> Option<Reg>
 }
 
 /// The register that the next word names, and what stands behind it.
-pub fn next_register(rest: Option<&[u8]>) -> Option<(Reg, Option<&[u8]>)>
-    ensures some { IfSome result (λ x. words_left (option_copied rest.entry) ≡ register_word x.0 ∷ words_left (option_copied x.1)) }
+pub fn next_register(rest: &[u8]) -> Option<(Reg, &[u8])>
+    ensures some { IfSome result (λ x. words_of rest.now ≡ register_word x.0 ∷ words_of x.1.now) }
     ensures range { IfSome result (λ x. x.0 < 16) }
-    ensures none { IfNone result ((r : ℕ) (others : List (List ℕ)) → r < 16 → words_left (option_copied rest.entry) ≡ register_word r ∷ others → ⊥) }
+    ensures none { IfNone result ((r : ℕ) (others : List (List ℕ)) → r < 16 → words_of rest.now ≡ register_word r ∷ others → ⊥) }
 {
-    let (word, others) = first_word(rest?);
+    let (word, others) = next_word(rest)?;
     match register(word) {
         Some(r) => Some((r, others)),
         None => None,
@@ -45,26 +44,30 @@ pub fn next_register(rest: Option<&[u8]>) -> Option<(Reg, Option<&[u8]>)>
 }
 
 /// The number that the last word spells.
-pub fn last_number(rest: Option<&[u8]>) -> Option<u64>
-    ensures some { IfSome result (λ n. words_left (option_copied rest.entry) ≡ decimal n ∷ []) }
-    ensures none { IfNone result ((n : ℕ) → n < 2 ^ 64 → words_left (option_copied rest.entry) ≡ decimal n ∷ [] → ⊥) }
+pub fn last_number(rest: &[u8]) -> Option<u64>
+    ensures some { IfSome result (λ n. words_of rest.now ≡ decimal n ∷ []) }
+    ensures none { IfNone result ((n : ℕ) → n < 2 ^ 64 → words_of rest.now ≡ decimal n ∷ [] → ⊥) }
 {
-    let (word, others) = first_word(rest?);
-    if others.is_some() {
-        return None;
-    }
-    number(word)
+    number(last_word(rest)?)
 }
 
 /// The register that the last word names.
-pub fn last_register(rest: Option<&[u8]>) -> Option<Reg>
-    ensures some { IfSome result (λ r. words_left (option_copied rest.entry) ≡ register_word r ∷ []) }
+pub fn last_register(rest: &[u8]) -> Option<Reg>
+    ensures some { IfSome result (λ r. words_of rest.now ≡ register_word r ∷ []) }
     ensures range { IfSome result (λ r. r < 16) }
-    ensures none { IfNone result ((r : ℕ) → r < 16 → words_left (option_copied rest.entry) ≡ register_word r ∷ [] → ⊥) }
+    ensures none { IfNone result ((r : ℕ) → r < 16 → words_of rest.now ≡ register_word r ∷ [] → ⊥) }
 {
-    let (word, others) = first_word(rest?);
-    if others.is_some() {
-        return None;
+    register(last_word(rest)?)
+}
+
+/// The one word that is left.
+fn last_word(rest: &[u8]) -> Option<&[u8]>
+    ensures some { IfSome result (λ word. words_of rest.now ≡ word.now ∷ []) }
+    ensures none { IfNone result ((word : List ℕ) → words_of rest.now ≡ word ∷ [] → ⊥) }
+{
+    let (word, others) = next_word(rest)?;
+    match next_word(others) {
+        None => Some(word),
+        Some(_) => None,
     }
-    register(word)
 }

@@ -1,13 +1,16 @@
 ghost use Rattle.std.specs.Prelude.{◌≡◌, ◌<◌, ◌≤◌, [], length, IfOk, IfErr};
-ghost use Rattle.dsm_top.specs.Text.{lines_of, StandsFor, AreInstructions};
-ghost use Rattle.dsm_top.specs.TextFaults.{Refuses, RefusesInstruction};
+ghost use Rattle.dsm_top.specs.Text.{StandsFor};
+ghost use Rattle.dsm_top.specs.TextFaults.{Refuses};
 
 use crate::text::cutting::next_line;
 use crate::text::fault::{FaultKind, TextErr, TextFault};
-use crate::text::instructions::{directive, instruction};
+use crate::text::line::{LineOf, line_of};
 use dsm_isa::code::{Code, CodeFault, MOST};
 use dsm_isa::instr::Instr;
 use std::alloc::Global;
+
+/// The words of a memory where the text doesn't say.
+pub const USUAL_WORDS: u32 = 64;
 
 /// A program: how many words its memory has, 1 to 256, and its code.
 #[derive(Drop)]
@@ -21,16 +24,24 @@ pub fn read_program(alloc: Global, text: &[u8]) -> Result<Program, TextErr>
     ensures program { IfOk result (λ p. StandsFor text.now p.words p.code) }
     ensures fault { IfErr result (Refuses text.now) }
 {
-    match next_line(text) {
-        Some((first, others)) => match directive(first) {
-            Some(words) => with_code(words, instructions(alloc, others)?),
-            None => refused(1, FaultKind::NotYet),
-        },
-        None => refused(1, FaultKind::NoCode),
+    let mut list = Vec::new(alloc);
+    let mut words = USUAL_WORDS;
+    let mut line: u64 = 0;
+    let mut rest = text;
+    while let Some((here, behind)) = next_line(rest) {
+        line += 1;
+        match line_of(here) {
+            Some(LineOf::Empty) => {}
+            Some(LineOf::Words(w)) if list.is_empty() => words = w,
+            Some(LineOf::Does(i)) if list.len() < MOST => list.push(i)?,
+            _ => return refused(line, FaultKind::NotYet),
+        }
+        rest = behind;
     }
+    with_code(words, list)
 }
 
-fn refused(line: u32, kind: FaultKind) -> Result<Program, TextErr>
+fn refused(line: u64, kind: FaultKind) -> Result<Program, TextErr>
     ensures { result ≡ Err (TextErr.Refused (record { line = line; kind = kind })) }
 {
     Err(TextErr::Refused(TextFault { line, kind }))
@@ -46,27 +57,4 @@ fn with_code(words: u32, list: Vec<Instr>) -> Result<Program, TextErr>
         Err(CodeFault::Empty) => refused(1, FaultKind::NoCode),
         Err(CodeFault::TooLong) => unreachable!(),
     }
-}
-
-/// The instructions of the lines behind the first one.
-fn instructions(alloc: Global, others: &[u8]) -> Result<Vec<Instr>, TextErr>
-    ensures list { IfOk result (λ list. AreInstructions (lines_of others.now) list.items) }
-    ensures most { IfOk result (λ list. length list.items ≤ 4096) }
-    ensures fault { IfErr result (RefusesInstruction (lines_of others.now)) }
-{
-    let mut list = Vec::new(alloc);
-    let mut rest = others;
-    while let Some((line, behind)) = next_line(rest) {
-        match instruction(line) {
-            Some(i) if list.len() < MOST => list.push(i)?,
-            _ => {
-                return Err(TextErr::Refused(TextFault {
-                    line: list.len() as u32 + 2,
-                    kind: FaultKind::NotYet,
-                }));
-            }
-        }
-        rest = behind;
-    }
-    Ok(list)
 }
