@@ -1,5 +1,5 @@
 -- Where a text is cut into its lines, and a line into its words.
-use Rattle.std.proofs.Common.{inl, inr, ◌≡◌, ◌≢◌, ℕ, zero, suc, ◌+◌, ◌-◌, ◌<◌, ◌≤◌, List, [], ◌∷◌, true, false, length, get_or, take, drop, refl, sym, ap, ◌∙◌, arith, add-one}
+use Rattle.std.proofs.Common.{◌≡◌, ◌≢◌, ℕ, zero, suc, ◌+◌, ◌-◌, ◌<◌, ◌≤◌, List, [], ◌∷◌, true, false, length, get_or, take, drop, refl, sym, ap, ◌∙◌, arith, add-one}
 use Rattle.std.specs.List.{filter}
 use Rattle.std.proofs.lemmas.Bool.{ne_eqb, eq-eqb}
 use Rattle.std.proofs.lemmas.List.{length-drop, take_all}
@@ -94,11 +94,37 @@ pub behind : (bytes : List ℕ) (at : ℕ) → take (length bytes - (at + 1)) (d
 behind bytes at = let rest : length (drop (at + 1) bytes) ≤ length bytes - (at + 1) = omega (arith, length-drop (at + 1) bytes) in take_all _ _ rest ∙ ap (λ n. drop n bytes) (add-one at)
 
 -- What stands from a place on.
-pub from : (bytes : List ℕ) (at : ℕ) → take (length bytes - at) (drop at bytes) ≡ drop at bytes
+from : (bytes : List ℕ) (at : ℕ) → take (length bytes - at) (drop at bytes) ≡ drop at bytes
 from bytes at = let rest : length (drop at bytes) ≤ length bytes - at = omega (arith, length-drop at bytes) in take_all _ _ rest
 
--- Its first byte.
-pub get_or-from : (bytes : List ℕ) (at : ℕ) → get_or (drop at bytes) 0 0 ≡ get_or bytes at 0
+get_or-from : (bytes : List ℕ) (at : ℕ) → get_or (drop at bytes) 0 0 ≡ get_or bytes at 0
 get_or-from bytes zero = refl
 get_or-from [] (suc at) = refl
 get_or-from (b ∷ bytes) (suc at) = get_or-from bytes at
+
+-- What stands from the first byte on that is no blank begins with a word.
+from_other : (bytes word : List ℕ) (start : ℕ) → take (length bytes - start) (drop start bytes) ≡ word → start < length bytes → ((k : ℕ) → k < start → is_blank (get_or bytes k 0) ≡ true) → is_blank (get_or bytes start 0) ≡ false → (words_of bytes ≡ words_of word) × (0 < length word) × (is_blank (get_or word 0 0) ≡ false)
+from_other bytes word start is within blanks other =
+    let e : drop start bytes ≡ word = sym (from bytes start) ∙ is in (
+      words_of-skip bytes start (omega arith) blanks ∙ ap words_of e,
+      omega (arith, length-drop start bytes, ap length e),
+      ap (λ w. is_blank (get_or w 0 0)) (sym e) ∙ ap is_blank (get_or-from bytes start) ∙ other,
+    )
+
+-- Bytes with a word that ends at a blank, which is counted from the word's start.
+pub word_from : (bytes : List ℕ) (start at : ℕ) → start < length bytes → ((k : ℕ) → k < start → is_blank (get_or bytes k 0) ≡ true) → is_blank (get_or bytes start 0) ≡ false →
+    let word = take (length bytes - start) (drop start bytes) in
+    at < length word → is_blank (get_or word at 0) ≡ true → ((k : ℕ) → k < at → is_blank (get_or word k 0) ≡ false) → words_of bytes ≡ take at word ∷ words_of (take (length word - (at + 1)) (drop (at + 1) word))
+word_from bytes start at within blanks other inside found first =
+    let word = take (length bytes - start) (drop start bytes) in
+    let begins = from_other bytes word start refl within blanks other in
+    begins.0 ∙ words_of-at word at inside begins.2 found first ∙ ap (λ l. take at word ∷ words_of l) (sym (behind word at))
+
+-- Bytes whose first word ends with them.
+pub last_word_from : (bytes : List ℕ) (start : ℕ) → start < length bytes → ((k : ℕ) → k < start → is_blank (get_or bytes k 0) ≡ true) → is_blank (get_or bytes start 0) ≡ false →
+    let word = take (length bytes - start) (drop start bytes) in
+    ((k : ℕ) → k < length word → is_blank (get_or word k 0) ≡ false) → words_of bytes ≡ word ∷ []
+last_word_from bytes start within blanks other none =
+    let word = take (length bytes - start) (drop start bytes) in
+    let begins = from_other bytes word start refl within blanks other in
+    begins.0 ∙ words_of-none word begins.1 none

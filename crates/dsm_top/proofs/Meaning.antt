@@ -1,5 +1,5 @@
 -- A text means one thing at most: one program, or one first fault.
-use Rattle.std.proofs.Common.{◌≡◌, ℕ, ◌-◌, ◌<◌, List, [], ◌∷◌, length, take, get_or, drop, decimal, refl, sym, ap, ◌∙◌, subst, arith}
+use Rattle.std.proofs.Common.{◌≡◌, ℕ, ◌-◌, ◌<◌, ◌≤◌, List, [], ◌∷◌, length, take, get_or, drop, decimal, refl, sym, ap, ◌∙◌, subst, arith}
 use Rattle.std.proofs.Math.Seq.{take-length}
 use Rattle.std.proofs.lemmas.Fmt.{decimal_injective}
 use Rattle.std.proofs.lemmas.Option.{slice_get_within}
@@ -8,7 +8,7 @@ use Rattle.dsm_isa.specs.declared.instr.Instr.TheVariants.{Li, Ld, St, Out, Halt
 use Rattle.dsm_top.specs.declared.text.fault.FaultKind.TheVariants.{NotYet, NoCode}
 use Rattle.dsm_top.specs.declared.text.line.LineOf.{LineOf}
 use Rattle.dsm_top.specs.declared.text.line.LineOf.TheVariants.{Empty, Words, Does}
-use Rattle.dsm_top.specs.Text.{lines_of, register, spelling, InRange, line_spelling, LineInRange, AreLines, instructions_of, memory_or, MayStand, InForm, StandsFor, BreaksForm}
+use Rattle.dsm_top.specs.Text.{lines_of, register, spelling, InRange, IsLine, line_spelling, LineInRange, AreLines, instructions_of, memory_or, MayStand, InForm, StandsFor, BreaksForm}
 use Rattle.dsm_top.specs.TextFaults.{OneProgram, NoFaultOfPrograms, OneFault}
 use Rattle.dsm_top.proofs.Spelling.{Spells-li, Spells-ld, Spells-st, Spells-out, Spells-halt, spelling-no_directive, spelling-some}
 use Rattle.dsm_top.proofs.Lines.{AreLines-front}
@@ -58,15 +58,27 @@ line_spelling_injective (Does i) Empty r s e = absurd (spelling-some i e)
 line_spelling_injective (Words w) (Does j) r s e = absurd (spelling-no_directive (decimal w ∷ []) j (sym e))
 line_spelling_injective (Does i) (Words v) r s e = absurd (spelling-no_directive (decimal v ∷ []) i e)
 
--- lines are one thing at most
+-- a line is one thing at most
+IsLine-same : (line : List ℕ) (is other : LineOf) → IsLine line is → IsLine line other → is ≡ other
+IsLine-same line is other here too = line_spelling_injective is other here.range too.range (sym here.words ∙ too.words)
+
 AreLines-same : (lines : List (List ℕ)) (are other : List LineOf) → AreLines lines are → AreLines lines other → are ≡ other
 AreLines-same [] [] [] each too = refl
 AreLines-same (l ∷ lines) (x ∷ are) (y ∷ other) each too =
-    ap (λ z. z ∷ are) (line_spelling_injective x y each.0.range too.0.range (sym each.0.words ∙ too.0.words)) ∙ ap (λ zs. y ∷ zs) (AreLines-same lines are other each.1 too.1)
+    ap (λ z. z ∷ are) (IsLine-same l x y each.0 too.0) ∙ ap (λ zs. y ∷ zs) (AreLines-same lines are other each.1 too.1)
 AreLines-same [] (x ∷ are) other each too = absurd each
 AreLines-same [] [] (y ∷ other) each too = absurd too
 AreLines-same (l ∷ lines) [] other each too = absurd each
 AreLines-same (l ∷ lines) (x ∷ are) [] each too = absurd too
+
+-- A `.words` behind an instruction breaks the form, and so does an instruction behind 4,096.
+pub broken-words : (line : List ℕ) (code : List Instr) (w : ℕ) → IsLine line (Words w) → (code ≡ [] → ⊥) → (before : List LineOf) (is : LineOf) → instructions_of before ≡ code → IsLine line is → MayStand before is → ⊥
+broken-words line code w here some before is same too may = some (sym same ∙ subst (MayStand before) (IsLine-same line is (Words w) too here) may)
+
+pub broken-does : (line : List ℕ) (code : List Instr) (i : Instr) → IsLine line (Does i) → 4096 ≤ length code → (before : List LineOf) (is : LineOf) → instructions_of before ≡ code → IsLine line is → MayStand before is → ⊥
+broken-does line code i here full before is same too may =
+    let room : length (instructions_of before) < 4096 = subst (MayStand before) (IsLine-same line is (Does i) too here) may in
+    omega (arith, room, full, ap length same)
 
 pub one_program : OneProgram
 one_program text w v code other s t =

@@ -1,5 +1,5 @@
 -- How numbers, registers and instructions are spelt.
-use Rattle.std.proofs.Common.{OkIff, IsSome, ◌↔◌, get_or, drop, codes, Bor, MatchResult, ◌≡◌, ℕ, ◌<◌, ◌^◌, List, [], ◌∷◌, Option, Some, None, Result, Ok, Err, IfNone, IsUtf8, decimal, refl, sym, ap, ◌∙◌, arith}
+use Rattle.std.proofs.Common.{length, OkIff, IsSome, ◌↔◌, get_or, drop, codes, Bor, MatchResult, ◌≡◌, ℕ, ◌<◌, ◌^◌, List, [], ◌∷◌, Option, Some, None, Result, Ok, Err, IfNone, IsUtf8, decimal, refl, sym, ap, ◌∙◌, arith}
 use Rattle.std.specs.Result.{result_ok}
 use Rattle.std.proofs.lemmas.Str.{IsUtf8-from_ascii}
 use Rattle.std.proofs.lemmas.Fmt.{IsAscii-decimal}
@@ -45,6 +45,11 @@ Spells-out words _ s = absurd (omega (arith, ap second_byte s.spelling_is))
 pub Spells-halt : (words : List (List ℕ)) (i : Instr) → Spells (codes "halt") words i → (i ≡ Halt) × (words ≡ [])
 Spells-halt words Halt s = (refl, sym (ap (drop 1) s.spelling_is))
 Spells-halt words _ s = absurd (omega (arith, ap second_byte s.spelling_is))
+
+-- The word of the directive, byte by byte.
+pub directive_word : (a : List ℕ) → length a ≡ 6 → get_or a 0 0 ≡ 46 → get_or a 1 0 ≡ 119 → get_or a 2 0 ≡ 111 → get_or a 3 0 ≡ 114 → get_or a 4 0 ≡ 100 → get_or a 5 0 ≡ 115 → a ≡ codes ".words"
+directive_word (b ∷ c ∷ d ∷ e ∷ f ∷ g ∷ []) six p q r s t u = cc
+directive_word _ six p q r s t u = absurd (omega arith)
 
 -- No instruction is spelt like the directive, or by no word.
 pub spelling-no_directive : (words : List (List ℕ)) (i : Instr) → spelling i ≡ codes ".words" ∷ words → ⊥
