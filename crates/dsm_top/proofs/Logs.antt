@@ -88,15 +88,18 @@ goes-load : (size : ℕ) (words : List ℕ) (r : Reader) (t : List Entry) (d w :
 goes-load size words r t d w log true test h =
     let inside : w < size = grind (arith, nat_tests) in
     let e : Entry = Load w (slice_index words (1 + w)) in
-    rw test (record { log = by_0 e ∷ log; tells = record {
-  own = own-more t log e h.own;
-  alone = alone-more log e h.alone;
-  legal = (tt, h.legal);
-  in_order = (h.words w inside, h.in_order);
-  room = h.room;
-  words = h.words;
-  closing = h.closing
-} })
+    rw test (record {
+      log = by_0 e ∷ log;
+      tells = record {
+        own = own-more t log e h.own;
+        alone = alone-more log e h.alone;
+        legal = (tt, h.legal);
+        in_order = (h.words w inside, h.in_order);
+        room = h.room;
+        words = h.words;
+        closing = h.closing;
+      };
+    })
 goes-load size words r t d w log false test h =
     rw test (record { log = log; tells = record { own = h.own; alone = h.alone; legal = h.legal; in_order = h.in_order; room = h.room; words = h.words; closing = tt } })
 
@@ -105,61 +108,73 @@ goes-store : (size : ℕ) (words : List ℕ) (r : Reader) (t : List Entry) (v w 
 goes-store size words r t v w log true test h =
     let inside : w < size = grind (arith, nat_tests) in
     let e : Entry = Store w v in
-    rw test (record { log = by_0 e ∷ log; tells = record {
-  own = own-more t log e h.own;
-  alone = alone-more log e h.alone;
-  legal = (tt, h.legal);
-  in_order = (tt, h.in_order);
-  room = length-set words (1 + w) v ∙ h.room;
-  words = words-stored size words log w v h.room inside h.words;
-  closing = h.closing
-} })
+    rw test (record {
+      log = by_0 e ∷ log;
+      tells = record {
+        own = own-more t log e h.own;
+        alone = alone-more log e h.alone;
+        legal = (tt, h.legal);
+        in_order = (tt, h.in_order);
+        room = length-set words (1 + w) v ∙ h.room;
+        words = words-stored size words log w v h.room inside h.words;
+        closing = h.closing;
+      };
+    })
 goes-store size words r t v w log false test h =
     rw test (record { log = log; tells = record { own = h.own; alone = h.alone; legal = h.legal; in_order = h.in_order; room = h.room; words = h.words; closing = tt } })
 
 goes-print : (size : ℕ) (words : List ℕ) (r : Reader) (t : List Entry) (v : ℕ) (log : Log) → Tells size (running words r false t) log → Goes size (behind words r false t (Print v))
 goes-print size words r t v log h =
-    record { log = by_0 (Out v) ∷ log; tells = record {
-  own = own-more t log (Out v) h.own;
-  alone = alone-more log (Out v) h.alone;
-  legal = (tt, h.legal);
-  in_order = (tt, h.in_order);
-  room = h.room;
-  words = h.words;
-  closing = h.closing
-} }
+    record {
+      log = by_0 (Out v) ∷ log;
+      tells = record {
+        own = own-more t log (Out v) h.own;
+        alone = alone-more log (Out v) h.alone;
+        legal = (tt, h.legal);
+        in_order = (tt, h.in_order);
+        room = h.room;
+        words = h.words;
+        closing = h.closing;
+      };
+    }
 
 goes-arrive : (size : ℕ) (words : List ℕ) (r : Reader) (t : List Entry) (log : Log) → Tells size (running words r false t) log → Goes size (behind words r false t Arrive)
 goes-arrive size words r t log h =
     let e : Entry = Signal Close 0 in
     let more : mine 0 (by_0 e ∷ log) ≡ mine 0 log ++ e ∷ [] = mine_own (by_0 e) log 0 refl in
-    record { log = by_0 e ∷ log; tells = record {
-  own = own-more t log e h.own;
-  alone = alone-more log e h.alone;
-  legal = (sym h.closing, h.legal);
-  in_order = (tt, h.in_order);
-  room = h.room;
-  words = h.words;
-  closing = record {
-    at = length (mine 0 log);
-    last = rw (more, length-append) (omega arith);
-    arrival = rw more (get_push_new (mine 0 log) e);
-    one = counted_signal Close 0 (signals Close log) ∙ ap (λ n. n + 1) h.closing
-  }
-} }
+    record {
+      log = by_0 e ∷ log;
+      tells = record {
+        own = own-more t log e h.own;
+        alone = alone-more log e h.alone;
+        legal = (sym h.closing, h.legal);
+        in_order = (tt, h.in_order);
+        room = h.room;
+        words = h.words;
+        closing = record {
+          at = length (mine 0 log);
+          last = rw (more, length-append) (omega arith);
+          arrival = rw more (get_push_new (mine 0 log) e);
+          one = counted_signal Close 0 (signals Close log) ∙ ap (λ n. n + 1) h.closing;
+        };
+      };
+    }
 
 goes-leave : (size : ℕ) (words : List ℕ) (r : Reader) (t : List Entry) (log : Log) → Tells size (running words r true t) log → Goes size (behind words r true t Leave)
 goes-leave size words r t log h =
     let e : Entry = Pass Close 1 in
-    record { log = by_0 e ∷ log; tells = record {
-  own = own-more t log e h.own;
-  alone = alone-more log e h.alone;
-  legal = (record { i = h.closing.at; a = 0; last = h.closing.last; arrival = h.closing.arrival; need = refl; all = omega (arith, h.closing.one) }, h.legal);
-  in_order = (tt, h.in_order);
-  room = h.room;
-  words = h.words;
-  closing = tt
-} }
+    record {
+      log = by_0 e ∷ log;
+      tells = record {
+        own = own-more t log e h.own;
+        alone = alone-more log e h.alone;
+        legal = (record { i = h.closing.at; a = 0; last = h.closing.last; arrival = h.closing.arrival; need = refl; all = omega (arith, h.closing.one) }, h.legal);
+        in_order = (tt, h.in_order);
+        room = h.room;
+        words = h.words;
+        closing = tt;
+      };
+    }
 
 goes-instruction : (size : ℕ) (words : List ℕ) (r : Reader) (t : List Entry) (log : Log) (i : Option Instr) → Tells size (running words r false t) log → Goes size (behind words r false t (action_of size r i))
 goes-instruction size words r t log (Some (Li d k)) h =
@@ -186,15 +201,18 @@ zeros (suc n) (suc k) = zeros n k
 -- each state of a run has its log
 pub goes : (size : ℕ) (code : List Instr) (n : ℕ) → Goes size (after size code n)
 goes size code zero =
-    record { log = []; tells = record {
-  own = refl;
-  alone = λ q ne. refl;
-  legal = tt;
-  in_order = tt;
-  room = length-replicate (size + 1) 0;
-  words = λ w inside. zeros (size + 1) (1 + w);
-  closing = refl
-} }
+    record {
+      log = [];
+      tells = record {
+        own = refl;
+        alone = λ q ne. refl;
+        legal = tt;
+        in_order = tt;
+        room = length-replicate (size + 1) 0;
+        words = λ w inside. zeros (size + 1) (1 + w);
+        closing = refl;
+      };
+    }
 goes size code (suc n) =
     let s = after size code n in
     let g = goes size code n in

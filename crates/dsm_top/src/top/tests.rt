@@ -95,15 +95,32 @@ fn faults(rt: HostRuntime) -> Result<(), Fail> {
     Ok(())
 }
 
-// One byte more than a text may have.
-#[test]
-fn too_long(rt: HostRuntime) -> Result<(), Fail> {
-    let mut text = String::new(rt.alloc());
-    for _ in 0..MOST_TEXT + 1 {
-        text.push('a')?;
+/// A line of so many bytes that is all comment, with its line feed.
+fn push_comment(text: &mut String, bytes: usize) -> Result<(), Fail> {
+    text.push(';')?;
+    for _ in 1..bytes {
+        text.push('x')?;
     }
-    let (status, written) = answer(rt.alloc(), SIM, text.as_str(), (4096, &[]), (4096, &[]))?;
-    assert_eq!(rt; status, 3);
-    assert_eq!(rt; written.as_slice(), b"refused line 0 TooLong\n".as_slice());
+    text.push('\n')?;
+    Ok(())
+}
+
+// A text of 65,536 bytes is read, and one of 65,537 is too long.
+#[test]
+fn longest_text(rt: HostRuntime) -> Result<(), Fail> {
+    for (last, status, wanted) in [
+        (31, 0, "cashmere 1x1\nend 0 halted\npage 0"),
+        (32, 3, "refused line 0 TooLong\n"),
+    ] {
+        let mut text = String::from_str(rt.alloc(), "halt\n")?;
+        for _ in 0..655 {
+            push_comment(&mut text, 99)?;
+        }
+        push_comment(&mut text, last - 1)?;
+        assert_eq!(rt; text.len(), MOST_TEXT + (last - 31));
+        let (got, written) = answer(rt.alloc(), SIM, text.as_str(), (4096, &[]), (4096, &[]))?;
+        assert_eq!(rt; got, status);
+        assert!(rt; written.starts_with(wanted.as_bytes()));
+    }
     Ok(())
 }
