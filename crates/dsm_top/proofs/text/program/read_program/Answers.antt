@@ -1,4 +1,4 @@
-use Rattle.std.proofs.Common.{◌≡◌, ◌<◌, ◌≤◌, ◌+◌, ◌++◌, ◌∷◌, [], false, vec_len, length, length-append, ap, subst, sym, arith}
+use Rattle.std.proofs.Common.{◌≡◌, ◌<◌, ◌+◌, ◌++◌, ◌∷◌, [], false, vec_len, length, length-append, ap, subst, sym, arith}
 use Rattle.std.proofs.lemmas.Grind.{common_steps}
 use Rattle.dsm_top.specs.Text.{IsLine}
 use Rattle.dsm_top.specs.declared.text.line.LineOf.TheVariants.{Empty, Words, Does}
