@@ -1,5 +1,5 @@
 -- The log of a run: what the processor did, newest first, with what the words then hold.
-use Rattle.std.proofs.Common.{◌≡◌, ◌≢◌, ℕ, zero, suc, ◌+◌, ◌<◌, ◌≤◌, ◌⊎◌, Bool, true, false, List, [], ◌∷◌, ◌++◌, Option, None, Some, length, length-append, drop, refl, sym, ap, ◌∙◌, inl, inr, arith, nat_lt, slice_get, slice_index, slice_set, replicate, if◌then◌else◌, ◌==◌}
+use Rattle.std.proofs.Common.{◌≡◌, ◌≢◌, ℕ, zero, suc, ◌+◌, ◌<◌, ◌⊎◌, Bool, true, false, List, [], ◌∷◌, ◌++◌, Option, None, Some, length, length-append, drop, refl, sym, ap, ◌∙◌, inl, inr, arith, nat_lt, slice_get, slice_index, slice_set, replicate, if◌then◌else◌, ◌==◌}
 use Rattle.std.proofs.lemmas.Bool.Decides.{nat_tests}
 use Rattle.std.proofs.lemmas.Bool.{cases_eq, eq-eqb, ne_eqb}
 use Rattle.std.proofs.Math.ListN.{length-set}
@@ -15,17 +15,17 @@ use Rattle.dsm_local.specs.declared.end.End.{End}
 use Rattle.dsm_local.specs.Local.{Reader, address}
 use Rattle.dsm_words.specs.Op.{answer_of, words_after}
 use Rattle.dsm_machine.specs.declared.action.Action.{Action}
-use Rattle.dsm_machine.specs.declared.action.Action.TheVariants.{LoadWord, StoreWord, Set, Print, Trap, Arrive, Leave}
+use Rattle.dsm_machine.specs.declared.action.Action.TheVariants.{LoadWord, StoreWord, Print, Trap, Arrive, Leave}
 use Rattle.dsm_machine.specs.Actions.{action_of, op_of}
-use Rattle.dsm_machine.specs.Processor.{Processor, new_processor, after_action, next_op, after_event}
+use Rattle.dsm_machine.specs.Processor.{Processor, after_action, next_op}
 use Rattle.dsm_flat.specs.Flat.{Flat, Sourced, Final}
 use Rattle.dsm_flat.specs.Sync.{SyncLegal}
 use Rattle.dsm_flat.specs.Laws.{Raises}
 use Rattle.dsm_flat.proofs.OrderLaws.{Ordered-one}
 use Rattle.dsm_flat.proofs.History.{Deed, Log, mine, mine_own, mine_other, get_push_new, IsHistory, history_one, rank}
-use Rattle.dsm_flat.proofs.Legal.{signals, counted_signal, Allowed, Legal, rank_raises, sync_legal}
-use Rattle.dsm_flat.proofs.Flatness.{latest, Fetches, InOrder, sourced, flat, final_value}
-use Rattle.dsm_top.specs.Run.{State, start, state_after, after}
+use Rattle.dsm_flat.proofs.Legal.{signals, counted_signal, Legal, rank_raises, sync_legal}
+use Rattle.dsm_flat.proofs.Flatness.{latest, InOrder, sourced, flat, final_value}
+use Rattle.dsm_top.specs.Run.{State, state_after, after}
 
 -- how far the processor is with the closing barrier, as the log shows it
 pub record HasArrived (log : Log) : Type 0 where
