@@ -8,7 +8,7 @@ use Rattle.dsm_entry.specs.declared.entry.Obj.TheVariants.{Close}
 use Rattle.dsm_local.specs.declared.end.End.{End}
 use Rattle.dsm_local.specs.declared.end.End.TheVariants.{Halted, Trapped}
 use Rattle.dsm_local.specs.declared.end.Trap.{Trap}
-use Rattle.dsm_local.specs.declared.end.Trap.TheVariants.{Address}
+use Rattle.dsm_local.specs.declared.end.Trap.TheVariants.{Address, Later}
 
 -- the reader: its registers, and the place in the code at which it is
 pub record Reader : Type 0 where
@@ -52,11 +52,21 @@ pub data Reads (size : ℕ) (code : List Instr) : Stand → List Entry → Type 
   arrives : {r : Reader} {t : List Entry} (j : ℕ) → Reads size code (Before r) t → HaltsAt code r.place → Reads size code Arrived (t ++ Signal Close j ∷ [])
   passes : {t : List Entry} (c : ℕ) → Reads size code Arrived t → Reads size code Passed (t ++ Pass Close c ∷ [])
 
+-- an instruction that no processor does yet
+abbrev pub IsLater : Instr → Type 0
+IsLater (Li d k) = ⊥
+IsLater (Ld d a k) = ⊥
+IsLater (St s a k) = ⊥
+IsLater (Print s) = ⊥
+IsLater Halt = ⊥
+IsLater _ = Unit {0}
+
 -- this instruction can't be done, for the reason that the kind names
 abbrev pub Traps : ℕ → Reader → Option Instr → Trap → Type 0
 Traps size r (Some (Ld d a k)) (Address w) = (w ≡ address r a k) × (size ≤ w)
 Traps size r (Some (St s a k)) (Address w) = (w ≡ address r a k) × (size ≤ w)
-Traps size r _ (Address w) = ⊥
+Traps size r (Some i) Later = IsLater i
+Traps size r _ _ = ⊥
 
 -- a processor that stands here may have this end, or none yet
 abbrev pub MayEnd : ℕ → List Instr → Stand → Option End → Type 0

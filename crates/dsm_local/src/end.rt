@@ -3,6 +3,8 @@
 pub enum Trap {
     /// A load or store of address `w`, which is above the last word.
     Address { w: u64 },
+    /// An instruction that no processor does yet.
+    Later,
 }
 
 /// How a processor ended.

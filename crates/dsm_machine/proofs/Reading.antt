@@ -42,6 +42,7 @@ Sound-action size code r t got (Some (St s a k)) is h = Sound-store size code r 
 Sound-action size code r t got (Some (Output s)) is h = does_out s h is
 Sound-action size code r t got (Some Halt) is h = arrives 0 h (inl is)
 Sound-action size code r t got None is h = arrives 0 h (inr is)
+Sound-action size code r t got (Some _) is h = (Before r, h, (refl, rw is tt))
 
 pub Sound-event : (size : ℕ) (code : List Instr) (r : Reader) (arrived : Bool) (t : List Entry) (e : Option End) (got : ℕ) → SoundAs size code (record { reader = r; arrived = arrived; trace = t; end = e }) e arrived
     → Sound size code (after_event size code (record { reader = r; arrived = arrived; trace = t; end = e }) got)

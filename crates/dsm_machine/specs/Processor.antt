@@ -6,7 +6,6 @@ use Rattle.dsm_entry.specs.declared.entry.Entry.TheVariants.{Load, Store, Signal
 use Rattle.dsm_entry.specs.declared.entry.Obj.TheVariants.{Close}
 use Rattle.dsm_local.specs.declared.end.End.{End}
 use Rattle.dsm_local.specs.declared.end.End.TheVariants.{Halted, Trapped}
-use Rattle.dsm_local.specs.declared.end.Trap.TheVariants.{Address}
 use Rattle.dsm_local.specs.Local.{Reader, new_reader, moved, given}
 use Rattle.dsm_words.specs.declared.op.Op.{Op}
 use Rattle.dsm_machine.specs.declared.action.Action.{Action}
@@ -34,7 +33,7 @@ after_action p (LoadWord d w) got = record p { reader = given p.reader d got; tr
 after_action p (StoreWord w v) got = record p { reader = moved p.reader; trace = p.trace ++ Store w v ∷ [] }
 after_action p (Set d v) got = record p { reader = given p.reader d v }
 after_action p (Print v) got = record p { reader = moved p.reader; trace = p.trace ++ Out v ∷ [] }
-after_action p (Trap w) got = record p { end = Some (Trapped p.reader.place (Address w)) }
+after_action p (Trap kind) got = record p { end = Some (Trapped p.reader.place kind) }
 after_action p Arrive got = record p { arrived = true; trace = p.trace ++ Signal Close 0 ∷ [] }
 after_action p Leave got = record p { trace = p.trace ++ Pass Close 1 ∷ []; end = Some Halted }
 

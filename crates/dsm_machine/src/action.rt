@@ -2,6 +2,7 @@ ghost use Rattle.std.specs.Prelude.{◌≡◌};
 ghost use Rattle.dsm_machine.specs.Actions.{op_of};
 
 use dsm_isa::reg::Reg;
+use dsm_local::end::Trap;
 use dsm_words::op::Op;
 
 /// What a processor does in one event.
@@ -15,8 +16,8 @@ pub enum Action {
     Set { d: Reg, v: u64 },
     /// Prints `v`.
     Print { v: u64 },
-    /// Ends, since there is no word `w`.
-    Trap { w: u64 },
+    /// Ends, since the instruction can't be done.
+    Trap { kind: Trap },
     /// Arrives at the closing barrier.
     Arrive,
     /// Passes the closing barrier, and ends.

@@ -109,19 +109,20 @@ impl Machine {
             Instr::Li { d, k } => Action::Set { d, v: k },
             Instr::Ld { d, a, k } => match self.word(a, k) {
                 Ok(w) => Action::LoadWord { d, w },
-                Err(w) => Action::Trap { w },
+                Err(w) => address_trap(w),
             },
             Instr::St { s, a, k } => match self.word(a, k) {
                 Ok(w) => Action::StoreWord {
                     w,
                     v: self.registers[s.index()],
                 },
-                Err(w) => Action::Trap { w },
+                Err(w) => address_trap(w),
             },
             Instr::Out { s } => Action::Print {
                 v: self.registers[s.index()],
             },
             Instr::Halt => Action::Arrive,
+            _ => Action::Trap { kind: Trap::Later },
         }
     }
 
@@ -189,10 +190,10 @@ impl Machine {
                 self.note(Entry::Out { v });
                 self.go_on();
             }
-            Action::Trap { w } => {
+            Action::Trap { kind } => {
                 self.end = Some(End::Trapped {
                     at: self.place,
-                    kind: Trap::Address { w },
+                    kind,
                 });
             }
             Action::Arrive => {
@@ -224,5 +225,14 @@ impl Machine {
         ensures { result.list ≡ self.processor.trace }
     {
         self.trace
+    }
+}
+
+/// Ends a processor whose load or store names no word.
+fn address_trap(w: u64) -> Action
+    ensures { result ≡ Action.Trap (Trap.Address w) }
+{
+    Action::Trap {
+        kind: Trap::Address { w },
     }
 }
