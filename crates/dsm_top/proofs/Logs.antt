@@ -12,6 +12,7 @@ use Rattle.dsm_entry.specs.declared.entry.Entry.{Entry}
 use Rattle.dsm_entry.specs.declared.entry.Entry.TheVariants.{Load, Store, Signal, Pass, Out}
 use Rattle.dsm_entry.specs.declared.entry.Obj.TheVariants.{Close}
 use Rattle.dsm_local.specs.declared.end.End.{End}
+use Rattle.dsm_local.specs.declared.end.Trap.TheVariants.{Address}
 use Rattle.dsm_local.specs.Local.{Reader, address}
 use Rattle.dsm_words.specs.Op.{answer_of, words_after}
 use Rattle.dsm_machine.specs.declared.action.Action.{Action}
@@ -84,7 +85,7 @@ pub record Goes (size : ℕ) (s : State) : Type 0 where
   pub tells : Tells size s log
 
 goes-load : (size : ℕ) (words : List ℕ) (r : Reader) (t : List Entry) (d w : ℕ) (log : Log) (within : Bool) → nat_lt w size ≡ within → Tells size (running words r false t) log
-    → Goes size (behind words r false t (if nat_lt w size then LoadWord d w else Trap w))
+    → Goes size (behind words r false t (if nat_lt w size then LoadWord d w else Trap (Address w)))
 goes-load size words r t d w log true test h =
     let inside : w < size = grind (arith, nat_tests) in
     let e : Entry = Load w (slice_index words (1 + w)) in
@@ -104,7 +105,7 @@ goes-load size words r t d w log false test h =
     rw test (record { log = log; tells = record { own = h.own; alone = h.alone; legal = h.legal; in_order = h.in_order; room = h.room; words = h.words; closing = tt } })
 
 goes-store : (size : ℕ) (words : List ℕ) (r : Reader) (t : List Entry) (v w : ℕ) (log : Log) (within : Bool) → nat_lt w size ≡ within → Tells size (running words r false t) log
-    → Goes size (behind words r false t (if nat_lt w size then StoreWord w v else Trap w))
+    → Goes size (behind words r false t (if nat_lt w size then StoreWord w v else Trap (Address w)))
 goes-store size words r t v w log true test h =
     let inside : w < size = grind (arith, nat_tests) in
     let e : Entry = Store w v in
@@ -184,6 +185,8 @@ goes-instruction size words r t log (Some (St s a k)) h = goes-store size words 
 goes-instruction size words r t log (Some (Output s)) h = goes-print size words r t (slice_index r.registers s) log h
 goes-instruction size words r t log (Some Halt) h = goes-arrive size words r t log h
 goes-instruction size words r t log None h = goes-arrive size words r t log h
+goes-instruction size words r t log (Some _) h =
+    record { log = log; tells = record { own = h.own; alone = h.alone; legal = h.legal; in_order = h.in_order; room = h.room; words = h.words; closing = tt } }
 
 goes-event : (size : ℕ) (code : List Instr) (words : List ℕ) (r : Reader) (arrived : Bool) (t : List Entry) (e : Option End) (log : Log)
     → Tells size (record { words = words; processor = record { reader = r; arrived = arrived; trace = t; end = e } }) log

@@ -4,7 +4,7 @@ use Rattle.dsm_entry.specs.declared.entry.Entry.{Entry}
 use Rattle.dsm_entry.specs.declared.entry.Entry.TheVariants.{Out}
 use Rattle.dsm_local.specs.declared.end.End.{End}
 use Rattle.dsm_local.specs.declared.end.End.TheVariants.{Halted, Trapped}
-use Rattle.dsm_local.specs.declared.end.Trap.TheVariants.{Address}
+use Rattle.dsm_local.specs.declared.end.Trap.TheVariants.{Address, Later}
 use Rattle.dsm_top.specs.declared.text.fault.FaultKind.{FaultKind}
 use Rattle.dsm_top.specs.declared.text.fault.FaultKind.TheVariants.{NotYet, NoCode}
 use Rattle.dsm_top.specs.Account.{Account}
@@ -17,6 +17,7 @@ line word words = word ++ flat_map (λ w. 32 ∷ w) words ++ 10 ∷ []
 abbrev pub end_words : Option End → List (List ℕ)
 end_words (Some Halted) = codes "halted" ∷ []
 end_words (Some (Trapped place (Address w))) = codes "trapped" ∷ decimal place ∷ codes "address" ∷ decimal w ∷ []
+end_words (Some (Trapped place Later)) = codes "trapped" ∷ decimal place ∷ codes "later" ∷ []
 end_words None = codes "cut" ∷ []
 
 -- a line for the end of each processor, numbered from p on

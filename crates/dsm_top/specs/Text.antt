@@ -51,6 +51,7 @@ spelling (Ld d a k) = codes "ld" ∷ register d ∷ register a ∷ decimal k ∷
 spelling (St s a k) = codes "st" ∷ register s ∷ register a ∷ decimal k ∷ []
 spelling (Out s) = codes "out" ∷ register s ∷ []
 spelling Halt = codes "halt" ∷ []
+spelling _ = []
 
 -- its registers and its number exist
 abbrev pub InRange : Instr → Type 0
@@ -59,6 +60,7 @@ InRange (Ld d a k) = (d < 16) × (a < 16) × (k < 2 ^ 64)
 InRange (St s a k) = (s < 16) × (a < 16) × (k < 2 ^ 64)
 InRange (Out s) = s < 16
 InRange Halt = Unit {0}
+InRange _ = ⊥
 
 -- the words of a line that is this
 abbrev pub line_spelling : LineOf → List (List ℕ)

@@ -132,6 +132,7 @@ fn write_trap(lines: &mut Lines, at: u32, kind: Trap) -> Result<(), NoMemory>
             lines.word("address")?;
             lines.number(w)
         }
+        Trap::Later => lines.word("later"),
     }
 }
 

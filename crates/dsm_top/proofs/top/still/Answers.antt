@@ -33,7 +33,7 @@ returns-clause-trapped g c =
     elim c.match-write_all.branch [
       | in-Err-write_all w ↦ λ s. absurd (omega (arith, w.status-is, s))
       | in-Ok-write_all w ↦ λ s. absurd (omega (arith, w.status-is, s))
-      | in-Ok-2 w ↦ λ _. TrapsAddress-unless_halted c.in-Ok-run.ran.ends e.1 e.2.end (λ all. let yes = w.is_halted.ensures.1 all in cc)
+      | in-Ok-2 w ↦ λ _. TrapsAddress-unless_halted c.in-Ok-read_program.program.words c.in-Ok-read_program.program.code c.in-Ok-run.ran.ends e.2.local.0 e.1 (fits-code _ _ _ c.in-Ok-read_program.ensures.program) e.2.local.2 e.2.end (λ all. let yes = w.is_halted.ensures.1 all in cc)
     ]
 
 pub returns-clause-whole : goal.returns-clause-whole
