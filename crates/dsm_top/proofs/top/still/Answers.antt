@@ -2,7 +2,7 @@ use Rattle.std.proofs.Common.{refl, inl, inr, arith}
 use Rattle.dsm_top.specs.Plans.{texts}
 use Rattle.dsm_top.specs.Report.{refused_line, kind_name}
 use Rattle.dsm_top.proofs.Words.{none-PlanOf}
-use Rattle.dsm_top.proofs.Ends.{TrapsAddress-unless_halted}
+use Rattle.dsm_top.proofs.Ends.{TrapsAddress-unless_halted, fits-code}
 use Rattle.dsm_top.proofs.top.still.Goals as goal
 use Rattle.dsm_top.proofs.top.still.Goals.{in-Err-write_all, in-Ok-write_all, in-Ok-2}
 
