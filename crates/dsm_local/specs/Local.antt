@@ -63,9 +63,9 @@ IsLater _ = Unit {0}
 
 -- this instruction can't be done, for the reason that the kind names
 abbrev pub Traps : ℕ → Reader → Option Instr → Trap → Type 0
+Traps size r (Some i) Later = IsLater i
 Traps size r (Some (Ld d a k)) (Address w) = (w ≡ address r a k) × (size ≤ w)
 Traps size r (Some (St s a k)) (Address w) = (w ≡ address r a k) × (size ≤ w)
-Traps size r (Some i) Later = IsLater i
 Traps size r _ _ = ⊥
 
 -- a processor that stands here may have this end, or none yet

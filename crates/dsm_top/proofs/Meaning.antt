@@ -42,6 +42,7 @@ spelling_injective (Out d) j r s e =
     let w = Spells-out (register d ∷ []) j (record { spelling_is = sym e; range = s }) in
     ap Out (register_injective d w.0 r w.3 (ap (word 0) w.2)) ∙ sym w.1
 spelling_injective Halt j r s e = sym (Spells-halt [] j (record { spelling_is = sym e; range = s })).0
+spelling_injective _ j r s e = absurd r
 
 -- lines with the same words are the same
 line_spelling_injective : (l m : LineOf) → LineInRange l → LineInRange m → line_spelling l ≡ line_spelling m → l ≡ m
@@ -53,8 +54,8 @@ line_spelling_injective (Words w) (Words v) r s e =
 line_spelling_injective (Does i) (Does j) r s e = ap Does (spelling_injective i j r s e)
 line_spelling_injective Empty (Words v) r s e = absurd (cc e)
 line_spelling_injective (Words w) Empty r s e = absurd (cc e)
-line_spelling_injective Empty (Does j) r s e = absurd (spelling-some j (sym e))
-line_spelling_injective (Does i) Empty r s e = absurd (spelling-some i e)
+line_spelling_injective Empty (Does j) r s e = absurd (spelling-some j s (sym e))
+line_spelling_injective (Does i) Empty r s e = absurd (spelling-some i r e)
 line_spelling_injective (Words w) (Does j) r s e = absurd (spelling-no_directive (decimal w ∷ []) j (sym e))
 line_spelling_injective (Does i) (Words v) r s e = absurd (spelling-no_directive (decimal v ∷ []) i e)
 

@@ -5,7 +5,7 @@ use Rattle.std.proofs.lemmas.Str.{IsUtf8-from_ascii}
 use Rattle.std.proofs.lemmas.Fmt.{IsAscii-decimal}
 use Rattle.dsm_isa.specs.declared.instr.Instr.{Instr}
 use Rattle.dsm_isa.specs.declared.instr.Instr.TheVariants.{Li, Ld, St, Out, Halt}
-use Rattle.dsm_top.specs.Text.{register, spelling}
+use Rattle.dsm_top.specs.Text.{register, spelling, InRange}
 use Rattle.dsm_top.specs.Spells.{Spells}
 
 -- what spells a number is text
@@ -58,13 +58,15 @@ spelling-no_directive words (Ld d a k) e = omega (arith, ap second_byte e)
 spelling-no_directive words (St d a k) e = omega (arith, ap second_byte e)
 spelling-no_directive words (Out d) e = omega (arith, ap second_byte e)
 spelling-no_directive words Halt e = omega (arith, ap second_byte e)
+spelling-no_directive words _ e = omega (arith, ap second_byte e)
 
-pub spelling-some : (i : Instr) → spelling i ≡ [] → ⊥
-spelling-some (Li d k) e = cc
-spelling-some (Ld d a k) e = cc
-spelling-some (St d a k) e = cc
-spelling-some (Out d) e = cc
-spelling-some Halt e = cc
+pub spelling-some : (i : Instr) → InRange i → spelling i ≡ [] → ⊥
+spelling-some (Li d k) r e = cc
+spelling-some (Ld d a k) r e = cc
+spelling-some (St d a k) r e = cc
+spelling-some (Out d) r e = cc
+spelling-some Halt r e = cc
+spelling-some _ r e = r
 
 -- what a test of a number answers
 pub no_value : {E : Type 0} (r : Result ℕ E) (P : Type 0) (v : ℕ) → OkIff r P v → None ≡ result_ok r → P → ⊥
