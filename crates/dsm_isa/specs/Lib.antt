@@ -1,0 +1,4 @@
+pub mod Jumps
+pub mod Limits
+pub mod ProgramText
+pub mod Rules

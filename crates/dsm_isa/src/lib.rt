@@ -3,6 +3,8 @@
 
 pub mod code;
 pub mod instr;
+pub mod program;
 pub mod reg;
+pub mod shape;
 #[cfg(test)]
 mod tests;
