@@ -3,15 +3,15 @@ use Rattle.std.specs.Prelude.{ℕ, ◌<◌, ◌*◌, List, map, All}
 use Rattle.std.specs.List.Sorted.{IsStrictlyIncreasing}
 use Rattle.dsm_isa.specs.declared.instr.Instr.{Instr}
 use Rattle.dsm_isa.specs.declared.instr.Instr.TheVariants.{Lock, Unlock, Bar, Set, Wait, Waitr}
-use Rattle.dsm_isa.specs.declared.shape.Shape.{Shape}
+use Rattle.dsm_isa.specs.ProgramText.{Sizes}
 
 -- the addresses ascend strictly and are below the number of words, and no value is 0
-abbrev pub IsInitial : Shape → List (ℕ × ℕ) → Type 0
+abbrev pub IsInitial : Sizes → List (ℕ × ℕ) → Type 0
 IsInitial shape init =
     IsStrictlyIncreasing (map (λ w. w.0) init) × All (λ w. (w.0 < shape.pages * shape.words) × (0 < w.1)) init
 
 -- the lock, barrier or flag of an instruction is one that there is
-abbrev pub ObjectInside : Shape → Instr → Type 0
+abbrev pub ObjectInside : Sizes → Instr → Type 0
 ObjectInside shape (Lock l) = l < shape.locks
 ObjectInside shape (Unlock l) = l < shape.locks
 ObjectInside shape (Bar b) = b < shape.barriers
@@ -21,5 +21,5 @@ ObjectInside shape (Waitr f a) = f < shape.flags
 ObjectInside shape _ = Unit {0}
 
 -- every one of the code is
-abbrev pub ObjectsInside : Shape → List Instr → Type 0
+abbrev pub ObjectsInside : Sizes → List Instr → Type 0
 ObjectsInside shape code = All (ObjectInside shape) code

@@ -81,7 +81,8 @@ impl Code {
     }
     /// The instructions in order.
     pub fn as_slice(&self) -> &[Instr]
-        ensures { result.now ≡ self.now }
+        ensures value { result.now ≡ self.now }
+        ensures jumps { JumpsInside result.now }
     {
         &self.list
     }

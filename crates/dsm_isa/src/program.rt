@@ -1,5 +1,6 @@
 ghost use Rattle.std.specs.Prelude.{◌≡◌, ◌<◌, ◌*◌, ◌↔◌, map, All, IsTrue, IsSome, IfSome};
 ghost use Rattle.std.specs.List.Sorted.{IsStrictlyIncreasing};
+ghost use Rattle.dsm_isa.specs.ProgramText.{sizes_of};
 ghost use Rattle.dsm_isa.specs.Rules.{IsInitial, ObjectInside, ObjectsInside};
 
 use crate::code::Code;
@@ -53,14 +54,14 @@ pub struct Program {
 }
 
 impl Model for Program {
-    ghost use Rattle.dsm_isa.specs.ProgramText.{ProgramText};
+    ghost use Rattle.dsm_isa.specs.ProgramText.{ProgramText, sizes_of};
     ghost use Rattle.dsm_isa.specs.Rules.{IsInitial, ObjectsInside};
 
     ghost Value = { ProgramText };
 
-    ghost view = { λ p. record { shape = p.shape; init = p.init; code = p.code } };
+    ghost view = { λ p. record { shape = sizes_of p.shape; init = p.init; code = p.code } };
 
-    ghost invariant = { λ p. IsInitial p.shape p.init × ObjectsInside p.shape p.code };
+    ghost invariant = { λ p. IsInitial (sizes_of p.shape) p.init × ObjectsInside (sizes_of p.shape) p.code };
 }
 
 impl Program {
@@ -68,10 +69,8 @@ impl Program {
     /// strictly, one of them is no word of the memory, a value is 0, or the code names a lock, barrier
     /// or flag that there is not. It takes no memory.
     pub fn new(shape: Shape, init: Vec<(u32, u64)>, code: Code) -> Option<Program>
-        ensures some { IsSome result ↔ (IsInitial shape init.items × ObjectsInside shape code) }
-        ensures shape { IfSome result (λ p. p.shape ≡ shape) }
-        ensures init { IfSome result (λ p. p.init ≡ init.items) }
-        ensures code { IfSome result (λ p. p.code ≡ code) }
+        ensures some { IsSome result ↔ (IsInitial (sizes_of shape) init.items × ObjectsInside (sizes_of shape) code) }
+        ensures value { IfSome result (λ p. p ≡ record { shape = sizes_of shape; init = init.items; code = code }) }
     {
         if keeps_rules(shape, &init, code.as_slice()) {
             let init = Init::new(init);
@@ -83,7 +82,7 @@ impl Program {
 
     /// Its sizes and counts.
     pub fn shape(&self) -> Shape
-        ensures { result ≡ self.now.shape }
+        ensures { sizes_of result ≡ self.now.shape }
     {
         self.shape
     }
@@ -107,7 +106,7 @@ impl Program {
 
 // Whether these are the parts of a program.
 fn keeps_rules(shape: Shape, init: &[(u32, u64)], code: &[Instr]) -> bool
-    ensures { IsTrue result ↔ (IsInitial shape init.now × ObjectsInside shape code.now) }
+    ensures { IsTrue result ↔ (IsInitial (sizes_of shape) init.now × ObjectsInside (sizes_of shape) code.now) }
 {
     ascends(init) && fits(shape, init) && finds_objects(shape, code)
 }
@@ -134,14 +133,14 @@ fn fits(shape: Shape, init: &[(u32, u64)]) -> bool
 
 // Whether all locks, barriers and flags of the code are there.
 fn finds_objects(shape: Shape, code: &[Instr]) -> bool
-    ensures { IsTrue result ↔ ObjectsInside shape code.now }
+    ensures { IsTrue result ↔ ObjectsInside (sizes_of shape) code.now }
 {
     code.iter().all(|instr| finds_object(shape, *instr))
 }
 
 // Whether the lock, barrier or flag of the instruction is there.
 fn finds_object(shape: Shape, instr: Instr) -> bool
-    ensures { IsTrue result ↔ ObjectInside shape instr }
+    ensures { IsTrue result ↔ ObjectInside (sizes_of shape) instr }
 {
     match instr {
         Instr::Lock { l } => l < shape.locks,

@@ -98,7 +98,7 @@ fn programs_give_their_parts(rt: HostRuntime) -> Result<(), Fail> {
     let init = [(0, 5), (7, 9)].to_vec(alloc)?;
     let program = Program::new(shape, init, code).ok_or("program")?;
     assert_eq!(rt; program.shape(), shape);
-    assert_eq!(rt; program.init(), &[(0, 5), (7, 9)]);
+    assert_eq!(rt; program.init(), [(0, 5), (7, 9)].as_slice());
     assert_eq!(rt; program.code().get(0), Some(Instr::Bar { b: 0 }));
     Ok(())
 }
@@ -106,7 +106,7 @@ fn programs_give_their_parts(rt: HostRuntime) -> Result<(), Fail> {
 #[test]
 fn initial_words_are_given_back(rt: HostRuntime) -> Result<(), Fail> {
     let init = Init::new([(2, 5)].to_vec(rt.alloc())?);
-    assert_eq!(rt; init.as_slice(), &[(2, 5)]);
-    assert_eq!(rt; init.into_vec().as_slice(), &[(2, 5)]);
+    assert_eq!(rt; init.as_slice(), [(2, 5)].as_slice());
+    assert_eq!(rt; init.into_vec().as_slice(), [(2, 5)].as_slice());
     Ok(())
 }
