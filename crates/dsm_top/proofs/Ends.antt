@@ -1,5 +1,5 @@
 -- How the one processor of a run ended.
-use Rattle.std.proofs.Common.{◌≡◌, ℕ, zero, suc, List, [], ◌∷◌, Option, None, Some, refl, ap, ◌∙◌, subst, slice_get}
+use Rattle.std.proofs.Common.{◌≡◌, ℕ, List, [], ◌∷◌, Option, None, Some, refl, ap, ◌∙◌, slice_get}
 use Rattle.std.specs.Prelude.{All}
 use Rattle.std.proofs.lemmas.List.Elements.{All-from_recursion}
 use Rattle.dsm_isa.specs.declared.instr.Instr.{Instr}
@@ -8,23 +8,13 @@ use Rattle.dsm_local.specs.declared.end.End.{End}
 use Rattle.dsm_local.specs.declared.end.End.TheVariants.{Halted, Trapped}
 use Rattle.dsm_local.specs.declared.end.Trap.TheVariants.{Address, Later}
 use Rattle.dsm_local.specs.Local.{Reader, Stand, Before, Arrived, Passed, IsLater, Traps, MayEnd}
-use Rattle.dsm_top.specs.declared.text.line.LineOf.{LineOf}
-use Rattle.dsm_top.specs.declared.text.line.LineOf.TheVariants.{Empty, Words, Does}
-use Rattle.dsm_top.specs.Text.{InRange, AreLines, instructions_of, StandsFor, lines_of}
+use Rattle.dsm_top.specs.Text.{InRange, StandsFor, lines_of}
+use Rattle.dsm_top.proofs.Lines.{AreLines-fit}
 use Rattle.dsm_top.specs.Answer.{AllHalted, TrapsAddress}
 
--- the instructions of a text can be said
-fits-lines : (lines : List (List ℕ)) (are : List LineOf) → AreLines lines are → (k : ℕ) (i : Instr) → slice_get (instructions_of are) k ≡ Some i → InRange i
-fits-lines [] [] each k i at = absurd (cc at)
-fits-lines [] (is ∷ are) each k i at = absurd each
-fits-lines (line ∷ lines) [] each k i at = absurd each
-fits-lines (line ∷ lines) (Empty ∷ are) each k i at = fits-lines lines are each.1 k i at
-fits-lines (line ∷ lines) (Words w ∷ are) each k i at = fits-lines lines are each.1 k i at
-fits-lines (line ∷ lines) (Does j ∷ are) each zero i at = let same : j ≡ i = cc at in subst InRange same each.0.range
-fits-lines (line ∷ lines) (Does j ∷ are) each (suc k) i at = fits-lines lines are each.1 k i at
-
+-- the code that a text stands for has only instructions that a text can say
 pub fits-code : (text : List ℕ) (w : ℕ) (code : List Instr) → StandsFor text w code → (k : ℕ) (i : Instr) → slice_get code k ≡ Some i → InRange i
-fits-code text w code stands k i at = fits-lines (lines_of text) stands.are stands.in_form.each k i (ap (λ c. slice_get c k) stands.instructions ∙ at)
+fits-code text w code stands k i at = AreLines-fit (lines_of text) stands.are stands.in_form.each k i (ap (λ c. slice_get c k) stands.instructions ∙ at)
 
 -- what a text can say is done by a processor
 not_later : (i : Instr) → InRange i → IsLater i → ⊥

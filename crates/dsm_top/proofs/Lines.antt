@@ -1,11 +1,14 @@
 -- Lines of the form, and the first line that breaks it.
-use Rattle.std.proofs.Common.{◌≡◌, ℕ, zero, suc, ◌+◌, ◌-◌, ◌<◌, ◌≤◌, List, [], ◌∷◌, ◌++◌, Some, length, take, slice_get, length-append, append-nil, append_assoc, refl, sym, ap, ◌∙◌, subst, arith}
+use Rattle.std.proofs.Common.{◌≡◌, ℕ, zero, suc, ◌+◌, ◌-◌, ◌<◌, ◌≤◌, List, [], ◌∷◌, ◌++◌, Option, None, Some, length, take, slice_get, length-append, append-nil, append_assoc, refl, sym, ap, ◌∙◌, subst, arith}
 use Rattle.std.proofs.Math.Seq.{take-append_seam}
+use Rattle.std.specs.Option.{option_and_then}
 use Rattle.dsm_isa.specs.declared.instr.Instr.{Instr}
+use Rattle.dsm_isa.specs.declared.instr.Instr.TheVariants.{Li, Ld, St, Out, Halt}
+use Rattle.dsm_isa.specs.Jumps.{target_of, target_at}
 use Rattle.dsm_top.specs.declared.text.fault.FaultKind.TheVariants.{NotYet, NoCode}
 use Rattle.dsm_top.specs.declared.text.line.LineOf.{LineOf}
 use Rattle.dsm_top.specs.declared.text.line.LineOf.TheVariants.{Empty, Words, Does}
-use Rattle.dsm_top.specs.Text.{lines_of, IsLine, AreLines, instructions_of, memory_or, MayStand, InForm, StandsFor, BreaksForm, IsFault}
+use Rattle.dsm_top.specs.Text.{lines_of, InRange, IsLine, AreLines, instructions_of, memory_or, MayStand, InForm, StandsFor, BreaksForm, IsFault}
 
 -- one line more
 AreLines-snoc : (lines : List (List ℕ)) (are : List LineOf) (line : List ℕ) (is : LineOf) → AreLines lines are → IsLine line is → AreLines (lines ++ (line ∷ [])) (are ++ (is ∷ []))
@@ -128,3 +131,29 @@ HasRead-program text n w code read some most = record {
 
 pub HasRead-no_code : (text : List ℕ) (n w : ℕ) (code : List Instr) → HasRead text [] n w code → code ≡ [] → IsFault text 1 NoCode
 HasRead-no_code text n w code read none = (refl, (read.are, HasRead-form text n w code read, read.instructions ∙ none))
+
+-- the instructions of lines can be said
+pub AreLines-fit : (lines : List (List ℕ)) (are : List LineOf) → AreLines lines are → (k : ℕ) (i : Instr) → slice_get (instructions_of are) k ≡ Some i → InRange i
+AreLines-fit [] [] each k i at = absurd (cc at)
+AreLines-fit [] (is ∷ are) each k i at = absurd each
+AreLines-fit (line ∷ lines) [] each k i at = absurd each
+AreLines-fit (line ∷ lines) (Empty ∷ are) each k i at = AreLines-fit lines are each.1 k i at
+AreLines-fit (line ∷ lines) (Words w ∷ are) each k i at = AreLines-fit lines are each.1 k i at
+AreLines-fit (line ∷ lines) (Does j ∷ are) each zero i at = let same : j ≡ i = cc at in subst InRange same each.0.range
+AreLines-fit (line ∷ lines) (Does j ∷ are) each (suc k) i at = AreLines-fit lines are each.1 k i at
+
+-- what a text can say jumps nowhere
+no_target : (i : Instr) → InRange i → target_of i ≡ None
+no_target (Li d k) fits = refl
+no_target (Ld d a k) fits = refl
+no_target (St s a k) fits = refl
+no_target (Out s) fits = refl
+no_target Halt fits = refl
+no_target _ fits = absurd fits
+
+pub HasRead-no_jumps : (text rest : List ℕ) (n w : ℕ) (code : List Instr) → HasRead text rest n w code → (at : ℕ) → target_at code at ≡ None
+HasRead-no_jumps text rest n w code read at = go (slice_get code at) refl
+  where
+    go : (o : Option Instr) → slice_get code at ≡ o → option_and_then target_of o ≡ None
+    go None is = refl
+    go (Some i) is = no_target i (AreLines-fit read.before read.are read.in_form.each at i (ap (λ c. slice_get c at) read.instructions ∙ is))

@@ -1,4 +1,5 @@
-ghost use Rattle.std.specs.Prelude.{◌≡◌, ◌<◌, ◌≤◌, [], length, IfOk, IfErr};
+ghost use Rattle.std.specs.Prelude.{◌≡◌, ℕ, ◌<◌, ◌≤◌, [], length, None, IfOk, IfErr};
+ghost use Rattle.dsm_isa.specs.Jumps.{target_at};
 ghost use Rattle.dsm_top.specs.Text.{StandsFor};
 ghost use Rattle.dsm_top.specs.TextFaults.{Refuses};
 
@@ -48,7 +49,8 @@ fn refused(line: u64, kind: FaultKind) -> Result<Program, TextErr>
 }
 
 fn with_code(words: u32, list: Vec<Instr>) -> Result<Program, TextErr>
-    requires { length list.items ≤ 4096 }
+    requires most { length list.items ≤ 4096 }
+    requires jumps { (at : ℕ) → target_at list.items at ≡ None }
     ensures program { IfOk result (λ p. (p.words ≡ words) × (p.code ≡ list.items) × (0 < length list.items)) }
     ensures fault { IfErr result (λ e. (e ≡ TextErr.Refused (record { line = 1; kind = FaultKind.NoCode })) × (list.items ≡ [])) }
 {
@@ -56,5 +58,6 @@ fn with_code(words: u32, list: Vec<Instr>) -> Result<Program, TextErr>
         Ok(code) => Ok(Program { words, code }),
         Err(CodeFault::Empty) => refused(1, FaultKind::NoCode),
         Err(CodeFault::TooLong) => unreachable!(),
+        Err(CodeFault::BadJump(_)) => unreachable!(),
     }
 }

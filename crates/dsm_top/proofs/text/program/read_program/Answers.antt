@@ -2,7 +2,7 @@ use Rattle.std.proofs.Common.{◌≡◌, ◌<◌, ◌+◌, ◌++◌, ◌∷◌, 
 use Rattle.std.proofs.lemmas.Grind.{common_steps}
 use Rattle.dsm_top.specs.Text.{IsLine}
 use Rattle.dsm_top.specs.declared.text.line.LineOf.TheVariants.{Empty, Words, Does}
-use Rattle.dsm_top.proofs.Lines.{HasRead, HasRead-nothing, HasRead-empty, HasRead-words, HasRead-does, HasRead-breaks}
+use Rattle.dsm_top.proofs.Lines.{HasRead, HasRead-nothing, HasRead-empty, HasRead-words, HasRead-does, HasRead-breaks, HasRead-no_jumps}
 use Rattle.dsm_top.proofs.Meaning.{broken-words, broken-does}
 use Rattle.dsm_top.proofs.text.program.read_program.Goals as goal
 use Rattle.dsm_top.proofs.text.program.read_program.Goals.{in_default-line_of-via-in-Some-Words+else-is_empty, in_default-line_of-via-in-Some-Does+else-len-lt-MOST, in_default-line_of-via-in_default}
@@ -61,3 +61,7 @@ loop-here-preserved c =
       most = omega (arith, ap length pushed, length-append code (i ∷ []));
       fits = omega (arith, c.in-Some.ensures.shorter);
     }
+
+pub with_code-requires-clause-jumps : goal.with_code-requires-clause-jumps
+with_code-requires-clause-jumps c =
+    HasRead-no_jumps c.args.text.now c.loop-here.rest.now c.loop-here.line c.loop-here.words c.loop-here.list.items c.loop-here.invariant.read
