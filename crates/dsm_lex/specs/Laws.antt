@@ -1,0 +1,15 @@
+-- What holds of all lines and words.
+use Rattle.std.specs.Prelude.{◌≢◌, ◌<◌, ℕ, List, length, false, ◌≡◌, All}
+use Rattle.dsm_lex.specs.Lexical.{lines_of, words_of, is_blank}
+
+-- no line has a line feed
+abbrev pub LinesHaveNoFeed : Type 0
+LinesHaveNoFeed = (text : List ℕ) → All (λ line. All (λ b. b ≢ 10) line) (lines_of text)
+
+-- no word has a blank
+abbrev pub WordsHaveNoBlank : Type 0
+WordsHaveNoBlank = (bytes : List ℕ) → All (λ word. All (λ b. is_blank b ≡ false) word) (words_of bytes)
+
+-- no word is empty
+abbrev pub WordsHaveBytes : Type 0
+WordsHaveBytes = (bytes : List ℕ) → All (λ word. 0 < length word) (words_of bytes)

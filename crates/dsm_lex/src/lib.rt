@@ -1,0 +1,11 @@
+// Lines, words, numbers and names of a text, by their places in it.
+#![tactic(auto)]
+
+pub mod laws;
+pub mod lines;
+pub mod scanning;
+pub mod spans;
+pub mod spelling;
+pub mod splitting;
+#[cfg(test)]
+mod tests;
