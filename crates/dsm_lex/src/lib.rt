@@ -3,7 +3,7 @@
 
 pub mod laws;
 pub mod lines;
-pub mod scanning;
+mod scanning;
 pub mod spans;
 pub mod spelling;
 pub mod splitting;

@@ -3,7 +3,7 @@ use Rattle.std.proofs.Common.{◌≡◌, ◌≢◌, ℕ, zero, suc, ◌+◌, ◌
 use Rattle.std.specs.List.{filter}
 use Rattle.std.proofs.lemmas.Bool.{ne_eqb, eq-eqb}
 use Rattle.std.proofs.lemmas.List.{length-drop, take_all}
-use Rattle.dsm_top.specs.Text.{onto, lines_of, content_of, is_blank, pieces_of, is_some_piece, words_of}
+use Rattle.dsm_lex.specs.Lexical.{onto, lines_of, content_of, is_blank, pieces_of, is_some_piece, words_of}
 
 lines_of-feed : (b : ℕ) (bytes : List ℕ) → b ≡ 10 → lines_of (b ∷ bytes) ≡ [] ∷ lines_of bytes
 lines_of-feed b bytes e = rw (eq-eqb b 10 e)

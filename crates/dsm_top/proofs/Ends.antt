@@ -8,7 +8,8 @@ use Rattle.dsm_local.specs.declared.end.End.{End}
 use Rattle.dsm_local.specs.declared.end.End.TheVariants.{Halted, Trapped}
 use Rattle.dsm_local.specs.declared.end.Trap.TheVariants.{Address, Later}
 use Rattle.dsm_local.specs.Local.{Reader, Stand, Before, Arrived, Passed, IsLater, Traps, MayEnd}
-use Rattle.dsm_top.specs.Text.{InRange, StandsFor, lines_of}
+use Rattle.dsm_lex.specs.Lexical.{lines_of}
+use Rattle.dsm_top.specs.Text.{InRange, StandsFor}
 use Rattle.dsm_top.proofs.Lines.{AreLines-fit}
 use Rattle.dsm_top.specs.Answer.{AllHalted, TrapsAddress}
 

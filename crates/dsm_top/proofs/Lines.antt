@@ -8,7 +8,8 @@ use Rattle.dsm_isa.specs.Jumps.{target_of, target_at}
 use Rattle.dsm_top.specs.declared.text.fault.FaultKind.TheVariants.{NotYet, NoCode}
 use Rattle.dsm_top.specs.declared.text.line.LineOf.{LineOf}
 use Rattle.dsm_top.specs.declared.text.line.LineOf.TheVariants.{Empty, Words, Does}
-use Rattle.dsm_top.specs.Text.{lines_of, InRange, IsLine, AreLines, instructions_of, memory_or, MayStand, InForm, StandsFor, BreaksForm, IsFault}
+use Rattle.dsm_lex.specs.Lexical.{lines_of}
+use Rattle.dsm_top.specs.Text.{InRange, IsLine, AreLines, instructions_of, memory_or, MayStand, InForm, StandsFor, BreaksForm, IsFault}
 
 -- one line more
 AreLines-snoc : (lines : List (List ℕ)) (are : List LineOf) (line : List ℕ) (is : LineOf) → AreLines lines are → IsLine line is → AreLines (lines ++ (line ∷ [])) (are ++ (is ∷ []))

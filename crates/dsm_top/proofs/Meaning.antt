@@ -8,7 +8,8 @@ use Rattle.dsm_isa.specs.declared.instr.Instr.TheVariants.{Li, Ld, St, Out, Halt
 use Rattle.dsm_top.specs.declared.text.fault.FaultKind.TheVariants.{NotYet, NoCode}
 use Rattle.dsm_top.specs.declared.text.line.LineOf.{LineOf}
 use Rattle.dsm_top.specs.declared.text.line.LineOf.TheVariants.{Empty, Words, Does}
-use Rattle.dsm_top.specs.Text.{lines_of, register, spelling, InRange, IsLine, line_spelling, LineInRange, AreLines, instructions_of, memory_or, MayStand, InForm, BreaksForm}
+use Rattle.dsm_lex.specs.Lexical.{lines_of}
+use Rattle.dsm_top.specs.Text.{register, spelling, InRange, IsLine, line_spelling, LineInRange, AreLines, instructions_of, memory_or, MayStand, InForm, BreaksForm}
 use Rattle.dsm_top.specs.TextFaults.{OneProgram, NoFaultOfPrograms, OneFault}
 use Rattle.dsm_top.proofs.Spelling.{Spells-li, Spells-ld, Spells-st, Spells-out, Spells-halt, spelling-no_directive, spelling-some}
 use Rattle.dsm_top.proofs.Lines.{AreLines-front}

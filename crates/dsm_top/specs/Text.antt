@@ -1,44 +1,12 @@
 -- The text of a program, by whole lines: which texts are in the form, and which program each stands for.
 use Rattle.std.specs.Prelude.{◌≡◌, ℕ, ◌-◌, ◌<◌, ◌≤◌, ◌^◌, ◌==◌, ◌||◌, Bool, true, false, if◌then◌else◌, List, [], ◌∷◌, length, take, filter, codes, decimal, Some, slice_get}
+use Rattle.dsm_lex.specs.Lexical.{lines_of, content_of, words_of}
 use Rattle.dsm_isa.specs.declared.instr.Instr.{Instr}
 use Rattle.dsm_isa.specs.declared.instr.Instr.TheVariants.{Li, Ld, St, Out, Halt}
 use Rattle.dsm_top.specs.declared.text.fault.FaultKind.{FaultKind}
 use Rattle.dsm_top.specs.declared.text.fault.FaultKind.TheVariants.{NotYet, NoCode}
 use Rattle.dsm_top.specs.declared.text.line.LineOf.{LineOf}
 use Rattle.dsm_top.specs.declared.text.line.LineOf.TheVariants.{Empty, Words, Does}
-
--- the byte goes onto the first piece
-abbrev pub onto : ℕ → List (List ℕ) → List (List ℕ)
-onto b [] = (b ∷ []) ∷ []
-onto b (piece ∷ pieces) = (b ∷ piece) ∷ pieces
-
--- The lines of a text: it is cut at each line feed. What stands behind the last one is a line only where
--- it is not empty.
-abbrev pub lines_of : List ℕ → List (List ℕ)
-lines_of [] = []
-lines_of (b ∷ bytes) = if b == 10 then [] ∷ lines_of bytes else onto b (lines_of bytes)
-
--- the content of a line: what stands before the first semicolon; the rest is comment
-abbrev pub content_of : List ℕ → List ℕ
-content_of [] = []
-content_of (b ∷ bytes) = if b == 59 then [] else b ∷ content_of bytes
-
--- a blank is a space, a tab or a carriage return
-abbrev pub is_blank : ℕ → Bool
-is_blank b = (b == 32) || (b == 9) || (b == 13)
-
--- the pieces of some bytes, which are cut at each blank
-abbrev pub pieces_of : List ℕ → List (List ℕ)
-pieces_of [] = [] ∷ []
-pieces_of (b ∷ bytes) = if is_blank b then [] ∷ pieces_of bytes else onto b (pieces_of bytes)
-
-abbrev pub is_some_piece : List ℕ → Bool
-is_some_piece [] = false
-is_some_piece (b ∷ bytes) = true
-
--- the words: the pieces that are not empty
-abbrev pub words_of : List ℕ → List (List ℕ)
-words_of bytes = filter is_some_piece (pieces_of bytes)
 
 -- a register is the letter r with its number
 abbrev pub register : ℕ → List ℕ

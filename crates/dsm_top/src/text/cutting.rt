@@ -1,5 +1,5 @@
 ghost use Rattle.std.specs.Prelude.{◌≡◌, ℕ, ◌<◌, ◌≢◌, ◌↔◌, true, false, [], ◌∷◌, length, slice_index, IsNone, IfNone, IfSome};
-ghost use Rattle.dsm_top.specs.Text.{lines_of, content_of, words_of, is_blank as blank};
+ghost use Rattle.dsm_lex.specs.Lexical.{lines_of, content_of, words_of, is_blank as blank};
 
 /// The first line of a text and what stands behind it, and None exactly where the text is empty.
 pub fn next_line(text: &[u8]) -> Option<(&[u8], &[u8])>

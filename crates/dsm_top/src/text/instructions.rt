@@ -1,6 +1,6 @@
 ghost use Rattle.std.specs.Prelude.{◌≡◌, IfSome, IfNone, codes};
 ghost use Rattle.dsm_isa.specs.declared.instr.Instr.{Instr as isa_instr};
-ghost use Rattle.dsm_top.specs.Text.{words_of};
+ghost use Rattle.dsm_lex.specs.Lexical.{words_of};
 ghost use Rattle.dsm_top.specs.Spells.{Spells};
 
 use crate::text::cutting::next_word;

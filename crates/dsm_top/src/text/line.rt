@@ -1,6 +1,7 @@
 ghost use Rattle.std.specs.Prelude.{◌≡◌, ◌<◌, ◌≤◌, IfSome, IfNone, ℕ};
 ghost use Rattle.dsm_top.specs.declared.text.line.LineOf.{LineOf as what_a_line_is};
-ghost use Rattle.dsm_top.specs.Text.{IsLine, words_of};
+ghost use Rattle.dsm_lex.specs.Lexical.{words_of};
+ghost use Rattle.dsm_top.specs.Text.{IsLine};
 ghost use Rattle.dsm_top.specs.Spells.{SpellsWords};
 
 use crate::text::cutting::{content, next_word};

@@ -1,24 +1,10 @@
 ghost use Rattle.std.specs.Prelude.{◌≡◌, ℕ, ◌<◌, ◌^◌, List, [], ◌∷◌, decimal, IsTrue, IfSome, IfNone, ◌↔◌};
-ghost use Rattle.dsm_top.specs.Text.{register as register_word, words_of};
+ghost use Rattle.dsm_lex.specs.Lexical.{words_of};
+ghost use Rattle.dsm_top.specs.Text.{register as register_word};
 
 use crate::text::cutting::next_word;
 use dsm_isa::reg::Reg;
-use itoa::Buffer;
-use std::str;
-
-/// The number that a word spells: `0`, or digits that don't begin with 0, at most 2^64 - 1.
-pub fn number(word: &[u8]) -> Option<u64>
-    ensures some { IfSome result (λ n. word.now ≡ decimal n) }
-    ensures none { IfNone result ((n : ℕ) → n < 2 ^ 64 → word.now ≡ decimal n → ⊥) }
-{
-    let n: u64 = str::from_utf8(word).ok()?.parse().ok()?;
-    // A number has one spelling: what it prints as.
-    if Buffer::new().format(n).as_bytes() == word {
-        Some(n)
-    } else {
-        None
-    }
-}
+use dsm_lex::spelling::number;
 
 /// The register that a word names: `r0` to `r15`.
 pub fn register(word: &[u8]) -> Option<Reg>

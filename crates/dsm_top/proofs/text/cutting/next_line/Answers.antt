@@ -1,6 +1,6 @@
 use Rattle.std.proofs.Common.{◌∷◌, ◌<◌, ◌∙◌, ap, sym, take, length, arith}
 use Rattle.std.proofs.lemmas.Grind.{common_steps}
-use Rattle.dsm_top.specs.Text.{lines_of}
+use Rattle.dsm_lex.specs.Lexical.{lines_of}
 use Rattle.dsm_top.proofs.Cutting.{lines_of-at, lines_of-none, behind}
 use Rattle.dsm_top.proofs.text.cutting.next_line.Goals as goal
 

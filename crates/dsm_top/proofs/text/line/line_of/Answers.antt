@@ -1,5 +1,5 @@
 use Rattle.std.proofs.Common.{◌≡◌, ◌∷◌, ◌∙◌, ap, sym, codes, arith}
-use Rattle.dsm_top.specs.Text.{words_of}
+use Rattle.dsm_lex.specs.Lexical.{words_of}
 use Rattle.dsm_top.proofs.Spelling.{directive_word}
 use Rattle.dsm_top.proofs.text.line.line_of.Goals as goal
 
