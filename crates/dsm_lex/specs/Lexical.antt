@@ -44,6 +44,7 @@ abbrev pub pieces_of : List ℕ → List (List ℕ)
 pieces_of [] = [] ∷ []
 pieces_of (b ∷ bytes) = if is_blank b then [] ∷ pieces_of bytes else onto b (pieces_of bytes)
 
+-- the piece is not empty
 abbrev pub is_some_piece : List ℕ → Bool
 is_some_piece [] = false
 is_some_piece (b ∷ bytes) = true

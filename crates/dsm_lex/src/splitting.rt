@@ -13,6 +13,7 @@ pub struct Words {
 }
 
 impl Words {
+    /// Counts a word, and keeps its span while a place is free.
     fn push(&mut self, word: Span)
         requires { self.old.count < 2 ^ 32 - 1 }
         ensures count { self.new.count ≡ self.old.count + 1 }
