@@ -16,6 +16,10 @@ fn place(op: Op) -> u64
     match op {
         Op::Load { at } => at,
         Op::Store { at, v: _ } => at,
+        Op::Swap { at, v: _ } => at,
+        Op::Exchange { at, old: _, new: _ } => at,
+        Op::Add { at, k: _ } => at,
+        Op::Or { at, bits: _ } => at,
     }
 }
 

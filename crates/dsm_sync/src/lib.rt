@@ -1,0 +1,11 @@
+// Locks, barriers and flags: trying, looking, unlocking, arriving and setting.
+#![tactic(auto)]
+
+pub mod arrive;
+pub mod got;
+pub mod lock;
+pub mod look;
+pub mod set;
+#[cfg(test)]
+mod tests;
+pub mod unlock;
