@@ -2,6 +2,7 @@
 #![tactic(auto)]
 
 pub mod arrive;
+pub mod counter;
 pub mod got;
 pub mod lock;
 pub mod look;
