@@ -1,10 +1,11 @@
 -- A run, event by event.
-use Rattle.std.proofs.Common.{◌≡◌, ℕ, zero, suc, List, [], ◌∷◌, ◌++◌, Option, None, Some, length, take, drop, append-nil, arith, refl, sym, ap, ◌∙◌}
+use Rattle.std.proofs.Common.{◌≡◌, ℕ, zero, suc, ◌+◌, ◌%◌, ◌^◌, ◌==◌, Bool, true, false, if◌then◌else◌, List, [], ◌∷◌, ◌++◌, Option, None, Some, length, take, drop, append-nil, arith, refl, sym, ap, ◌∙◌}
+use Rattle.std.specs.Prelude.{slice_index, slice_set, bit_or}
 use Rattle.std.proofs.lemmas.List.{take_all, drop_all}
 use Rattle.std.proofs.Math.ListN.{length-set}
 use Rattle.dsm_isa.specs.declared.instr.Instr.{Instr}
 use Rattle.dsm_words.specs.declared.op.Op.{Op}
-use Rattle.dsm_words.specs.declared.op.Op.TheVariants.{Load, Store}
+use Rattle.dsm_words.specs.declared.op.Op.TheVariants.{Load, Store, Swap, Exchange, Add, Or}
 use Rattle.dsm_words.specs.Op.{answer_of, words_after}
 use Rattle.dsm_local.specs.declared.end.End.{End}
 use Rattle.dsm_machine.specs.declared.action.Action.{Action}
@@ -20,6 +21,14 @@ after-next size code n s op is next = sym (ap (state_after size code s) next) �
 pub length-words_after : (words : List ℕ) (op : Op) → length (words_after words op) ≡ length words
 length-words_after words (Load at) = refl
 length-words_after words (Store at v) = length-set words at v
+length-words_after words (Swap at v) = length-set words at v
+length-words_after words (Exchange at old new) = go (slice_index words at == old)
+  where
+    go : (b : Bool) → length (if b then slice_set words at new else words) ≡ length words
+    go true = length-set words at new
+    go false = refl
+length-words_after words (Add at k) = length-set words at ((slice_index words at + k) % 2 ^ 64)
+length-words_after words (Or at bits) = length-set words at (bit_or (slice_index words at) bits)
 
 -- what has no next operation has ended
 pub end-from_no_op : (e : Option End) (a : Action) → op_unless e a ≡ None → (f : End) × (e ≡ Some f)
