@@ -17,7 +17,7 @@ pub enum TurnId {
 
 impl TurnId {
     /// The place of its word.
-    pub fn place(self, lay: &Layout) -> u64
+    pub(crate) fn place(self, lay: &Layout) -> u64
         requires { turn_number self < turns_of (lay_of lay.now) self }
         ensures place { result ≡ place (lay_of lay.now) (turn_item self) }
         ensures within { result < total (lay_of lay.now) }

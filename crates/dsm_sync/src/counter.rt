@@ -15,7 +15,7 @@ pub enum Counter {
 
 impl Counter {
     /// The place of its word.
-    pub fn place(self, lay: &Layout) -> u64
+    pub(crate) fn place(self, lay: &Layout) -> u64
         requires { counter_number self < counters_of (lay_of lay.now) self }
         ensures place { result ≡ place (lay_of lay.now) (counter_item self) }
         ensures within { result < total (lay_of lay.now) }

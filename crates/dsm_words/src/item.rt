@@ -47,7 +47,7 @@ pub enum Item {
 
 impl Item {
     /// The block in which its word stands, from 0.
-    pub fn block(self) -> usize
+    pub(crate) fn block(self) -> usize
         ensures value { result ≡ block self }
         ensures within { result < 19 }
     {

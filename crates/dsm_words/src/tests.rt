@@ -36,22 +36,28 @@ fn topologies_have_limits(rt: HostRuntime) -> Result<(), Fail> {
 #[test]
 fn smallest_places(rt: HostRuntime) -> Result<(), Fail> {
     let lay = Layout::new(Topology::new(1, 1)?, 1, 1, 0, 0, 0);
-    assert_eq!(rt; lay.place(Item::Stop), 0);
-    assert_eq!(rt; lay.place(Item::Frame { n: 0, g: 0, i: 0 }), 1);
-    assert_eq!(rt; lay.place(Item::Twin { n: 0, g: 0, i: 0 }), 2);
-    assert_eq!(rt; lay.place(Item::Twined { n: 0, g: 0 }), 3);
-    assert_eq!(rt; lay.place(Item::Map { p: 0, g: 0 }), 4);
-    assert_eq!(rt; lay.place(Item::Dir { n: 0, g: 0 }), 5);
-    assert_eq!(rt; lay.place(Item::Update { n: 0, g: 0 }), 6);
-    assert_eq!(rt; lay.place(Item::Flush { n: 0, g: 0 }), 7);
-    assert_eq!(rt; lay.place(Item::Notice { n: 0, g: 0 }), 8);
-    assert_eq!(rt; lay.place(Item::Clock { n: 0 }), 9);
-    assert_eq!(rt; lay.place(Item::Turn { g: 0 }), 10);
-    assert_eq!(rt; lay.place(Item::NoticeTurn { n: 0 }), 11);
-    assert_eq!(rt; lay.place(Item::Global { n: 0, m: 0, k: 0 }), 12);
-    assert_eq!(rt; lay.place(Item::Own { p: 0, k: 0 }), 13);
-    assert_eq!(rt; lay.place(Item::Nle { p: 0, k: 0 }), 14);
-    assert_eq!(rt; lay.place(Item::Close), 15);
+    let places = [
+        lay.place(Item::Stop),
+        lay.place(Item::Frame { n: 0, g: 0, i: 0 }),
+        lay.place(Item::Twin { n: 0, g: 0, i: 0 }),
+        lay.place(Item::Twined { n: 0, g: 0 }),
+        lay.place(Item::Map { p: 0, g: 0 }),
+        lay.place(Item::Dir { n: 0, g: 0 }),
+        lay.place(Item::Update { n: 0, g: 0 }),
+        lay.place(Item::Flush { n: 0, g: 0 }),
+        lay.place(Item::Notice { n: 0, g: 0 }),
+        lay.place(Item::Clock { n: 0 }),
+        lay.place(Item::Turn { g: 0 }),
+        lay.place(Item::NoticeTurn { n: 0 }),
+        lay.place(Item::Global { n: 0, m: 0, k: 0 }),
+        lay.place(Item::Own { p: 0, k: 0 }),
+        lay.place(Item::Nle { p: 0, k: 0 }),
+        lay.place(Item::Close),
+    ];
+    assert_eq!(rt;
+        places,
+        [0, 1, 2, 3, 4, 5, 6, 7, 8, 9, 10, 11, 12, 13, 14, 15]
+    );
     assert_eq!(rt; lay.len(), 16);
     Ok(())
 }
@@ -61,24 +67,34 @@ fn smallest_places(rt: HostRuntime) -> Result<(), Fail> {
 fn greatest_places(rt: HostRuntime) -> Result<(), Fail> {
     let lay = Layout::new(Topology::new(8, 4)?, 256, 256, 64, 16, 64);
     let (n, m, p, g, i, k) = (7, 7, 31, 255, 255, 3);
-    assert_eq!(rt; lay.place(Item::Frame { n, g, i }), 524_288);
-    assert_eq!(rt; lay.place(Item::Twin { n, g, i }), 1_048_576);
-    assert_eq!(rt; lay.place(Item::Twined { n, g }), 1_050_624);
-    assert_eq!(rt; lay.place(Item::Map { p, g }), 1_058_816);
-    assert_eq!(rt; lay.place(Item::Dir { n, g }), 1_060_864);
-    assert_eq!(rt; lay.place(Item::Update { n, g }), 1_062_912);
-    assert_eq!(rt; lay.place(Item::Flush { n, g }), 1_064_960);
-    assert_eq!(rt; lay.place(Item::Notice { n, g }), 1_067_008);
-    assert_eq!(rt; lay.place(Item::Clock { n }), 1_067_016);
-    assert_eq!(rt; lay.place(Item::Turn { g }), 1_067_272);
-    assert_eq!(rt; lay.place(Item::NoticeTurn { n }), 1_067_280);
-    assert_eq!(rt; lay.place(Item::Global { n, m, k }), 1_067_536);
-    assert_eq!(rt; lay.place(Item::Own { p, k }), 1_067_664);
-    assert_eq!(rt; lay.place(Item::Nle { p, k }), 1_067_792);
-    assert_eq!(rt; lay.place(Item::Lock { l: 63 }), 1_067_856);
-    assert_eq!(rt; lay.place(Item::Barrier { b: 15 }), 1_067_872);
-    assert_eq!(rt; lay.place(Item::Flag { f: 63 }), 1_067_936);
-    assert_eq!(rt; lay.place(Item::Close), 1_067_937);
+    let places = [
+        lay.place(Item::Frame { n, g, i }),
+        lay.place(Item::Twin { n, g, i }),
+        lay.place(Item::Twined { n, g }),
+        lay.place(Item::Map { p, g }),
+        lay.place(Item::Dir { n, g }),
+        lay.place(Item::Update { n, g }),
+        lay.place(Item::Flush { n, g }),
+        lay.place(Item::Notice { n, g }),
+        lay.place(Item::Clock { n }),
+        lay.place(Item::Turn { g }),
+        lay.place(Item::NoticeTurn { n }),
+        lay.place(Item::Global { n, m, k }),
+        lay.place(Item::Own { p, k }),
+        lay.place(Item::Nle { p, k }),
+        lay.place(Item::Lock { l: 63 }),
+        lay.place(Item::Barrier { b: 15 }),
+        lay.place(Item::Flag { f: 63 }),
+        lay.place(Item::Close),
+    ];
+    assert_eq!(rt;
+        places,
+        [
+            524_288, 1_048_576, 1_050_624, 1_058_816, 1_060_864, 1_062_912, 1_064_960, 1_067_008,
+            1_067_016, 1_067_272, 1_067_280, 1_067_536, 1_067_664, 1_067_792, 1_067_856, 1_067_872,
+            1_067_936, 1_067_937,
+        ]
+    );
     assert_eq!(rt; lay.len(), 1_067_938);
     Ok(())
 }
@@ -87,9 +103,12 @@ fn greatest_places(rt: HostRuntime) -> Result<(), Fail> {
 #[test]
 fn rows_of_places(rt: HostRuntime) -> Result<(), Fail> {
     let lay = Layout::new(Topology::new(2, 3)?, 100, 10, 1, 1, 1);
-    assert_eq!(rt; lay.place(Item::Frame { n: 1, g: 2, i: 3 }), 1024);
-    assert_eq!(rt; lay.place(Item::Twined { n: 1, g: 2 }), 4103);
-    assert_eq!(rt; lay.place(Item::Global { n: 0, m: 1, k: 1 }), 5708);
+    let places = [
+        lay.place(Item::Frame { n: 1, g: 2, i: 3 }),
+        lay.place(Item::Twined { n: 1, g: 2 }),
+        lay.place(Item::Global { n: 0, m: 1, k: 1 }),
+    ];
+    assert_eq!(rt; places, [1024, 4103, 5708]);
     Ok(())
 }
 
