@@ -1,0 +1,6 @@
+pub mod Faults
+pub mod Grammar
+pub mod Lines
+pub mod Operands
+pub mod Settings
+pub mod Statements
