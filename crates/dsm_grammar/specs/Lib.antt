@@ -1,5 +1,6 @@
 pub mod Faults
 pub mod Grammar
+pub mod Laws
 pub mod Lines
 pub mod Operands
 pub mod Settings

@@ -1,10 +1,9 @@
 -- What a line of a text says.
-use Rattle.std.specs.Prelude.{ℕ, ◌-◌, ◌&&◌, ◌||◌, not, nat_le, Bool, if◌then◌else◌, List, [], ◌∷◌, ◌++◌, length, take, slice_index, Option, None, Some}
-use Rattle.std.specs.Char.{is_ascii_digit}
+use Rattle.std.specs.Prelude.{ℕ, ◌-◌, ◌&&◌, ◌||◌, nat_le, Bool, if◌then◌else◌, List, [], ◌∷◌, ◌++◌, length, take, Option, None, Some}
 use Rattle.std.specs.List.{list_all}
 use Rattle.std.specs.Option.{is_some}
 use Rattle.std.specs.Str.{bytes_eq}
-use Rattle.dsm_lex.specs.Lexical.{content_of, is_blank, is_name_byte, words_of}
+use Rattle.dsm_lex.specs.Lexical.{content_of, is_blank, is_name, words_of}
 
 -- the line holds printable ASCII and blanks before its comment
 abbrev pub is_plain : List ℕ → Bool
@@ -13,11 +12,6 @@ is_plain line = list_all (λ b. is_blank b || nat_le 32 b && nat_le b 126) (cont
 -- it has 200 bytes at most, with its comment
 abbrev pub is_short : List ℕ → Bool
 is_short line = nat_le (length line) 200
-
--- the bytes are a name
-abbrev pub is_name : List ℕ → Bool
-is_name word =
-    nat_le 1 (length word) && nat_le (length word) 32 && not (is_ascii_digit (slice_index word 0)) && list_all is_name_byte word
 
 -- the name that a word defines as a label: a name and a colon
 abbrev pub label_in : List ℕ → Option (List ℕ)

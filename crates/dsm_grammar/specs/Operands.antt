@@ -1,21 +1,10 @@
--- Operands: numbers, registers and labels.
-use Rattle.std.specs.Prelude.{ℕ, ◌^◌, ◌==◌, ◌&&◌, ◌||◌, not, nat_lt, nat_le, Bool, false, if◌then◌else◌, List, [], ◌∷◌, length, Option, None, Some}
-use Rattle.std.specs.Char.{is_ascii_digit}
-use Rattle.std.specs.List.{list_all}
+-- Operands: registers, numbers and labels.
+use Rattle.std.specs.Prelude.{ℕ, ◌==◌, ◌&&◌, nat_lt, nat_le, if◌then◌else◌, List, [], ◌∷◌, Option, None, Some}
 use Rattle.std.specs.Option.{option_and_then}
-use Rattle.std.specs.Str.Parse.{digits_value}
+use Rattle.dsm_lex.specs.Lexical.{number_of}
 use Rattle.dsm_grammar.specs.declared.fault.Bound.{Bound}
 use Rattle.dsm_grammar.specs.declared.fault.AsmKind.{AsmKind}
 use Rattle.dsm_grammar.specs.declared.fault.AsmKind.TheVariants.{BadRegister, BadNumber, NoLabel, Limit}
-
--- the word is digits: 0 alone, or some that do not begin with 0
-abbrev pub is_numeral : List ℕ → Bool
-is_numeral [] = false
-is_numeral (b ∷ digits) = list_all is_ascii_digit (b ∷ digits) && (not (b == 48) || length digits == 0)
-
--- the number that a word spells: it is below 2^64
-abbrev pub number_of : List ℕ → Option ℕ
-number_of word = let n = digits_value 10 word in if is_numeral word && nat_lt n (2 ^ 64) then Some n else None
 
 -- the register that a word names: the letter r, and a number below 16
 abbrev pub register_of : List ℕ → Option ℕ

@@ -1,8 +1,9 @@
-ghost use Rattle.std.specs.Prelude.{◌≡◌, ◌<◌, ◌^◌, ◌↔◌, ℕ, ◌++◌, IsTrue, decimal, List, [], ◌∷◌, codes, replicate, Some, None};
+ghost use Rattle.std.specs.Prelude.{◌≡◌, ◌<◌, ◌≤◌, length, ◌++◌, [], ◌∷◌, codes, replicate, Some, None};
 ghost use Rattle.dsm_isa.specs.declared.instr.Instr.TheVariants.{Li, Jmp, Halt};
-ghost use Rattle.dsm_lex.specs.Lexical.{IsName};
-ghost use Rattle.dsm_grammar.specs.Lines.{is_name};
-ghost use Rattle.dsm_grammar.specs.Operands.{number_of};
+ghost use Rattle.dsm_isa.specs.Jumps.{JumpsInside};
+ghost use Rattle.dsm_isa.specs.Limits.{IsWithinLimits};
+ghost use Rattle.dsm_isa.specs.Rules.{IsInitial, ObjectsInside};
+ghost use Rattle.dsm_grammar.specs.Laws.{OfEachProgram};
 ghost use Rattle.dsm_grammar.specs.Faults.{first_fault_of};
 ghost use Rattle.dsm_grammar.specs.Grammar.{program_of};
 ghost use Rattle.dsm_grammar.specs.declared.fault.AsmKind.TheVariants.{NotAscii, LongLine, DoubleLabel, UnknownWord, DirectiveLate, BadOperand, BadRegister, BadNumber, NoLabel, Limit, NoCode};
@@ -51,8 +52,12 @@ pub fn accepted_examples()
     ensures defaults { (program_of (codes "halt")).shape ≡ record { pages = 1; words = 64; locks = 0; barriers = 0; flags = 0 } }
 {}
 
-/// A word spells a number exactly where it is what that number prints as, and a word is a name exactly as dsm_lex has it.
-pub fn spelling_laws()
-    ensures numbers { (word : List ℕ) (n : ℕ) → (number_of word ≡ Some n) ↔ ((n < 2 ^ 64) × (word ≡ decimal n)) }
-    ensures names { (word : List ℕ) → IsTrue (is_name word) ↔ IsName word }
+/// The program of a text without a fault keeps what every program keeps.
+pub fn program_law()
+    ensures limits { OfEachProgram (λ p. let s = p.shape in IsWithinLimits s.pages s.words s.locks s.barriers s.flags) }
+    ensures initial { OfEachProgram (λ p. IsInitial p.shape p.init) }
+    ensures some { OfEachProgram (λ p. 0 < length p.code) }
+    ensures most { OfEachProgram (λ p. length p.code ≤ 4096) }
+    ensures jumps { OfEachProgram (λ p. JumpsInside p.code) }
+    ensures objects { OfEachProgram (λ p. ObjectsInside p.shape p.code) }
 {}

@@ -2,3 +2,4 @@ pub mod Cutting
 pub mod Numbers
 pub mod Pieces
 pub mod Places
+pub mod Texts

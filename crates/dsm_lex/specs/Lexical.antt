@@ -1,6 +1,8 @@
 -- Lines, words, numbers and names.
-use Rattle.std.specs.Prelude.{ℕ, ◌<◌, ◌≤◌, ◌==◌, ◌||◌, Bool, true, false, if◌then◌else◌, List, [], ◌∷◌, length, slice_index, slice_index_or, slice_range, EachIndex, filter, IsTrue, IsFalse}
+use Rattle.std.specs.Prelude.{ℕ, ◌<◌, ◌≤◌, ◌^◌, ◌==◌, ◌&&◌, ◌||◌, not, nat_lt, nat_le, Bool, true, false, if◌then◌else◌, List, [], ◌∷◌, length, slice_index, slice_index_or, slice_range, filter, Option, None, Some}
 use Rattle.std.specs.Char.{is_ascii_digit, is_ascii_lowercase}
+use Rattle.std.specs.List.{list_all}
+use Rattle.std.specs.Str.Parse.{digits_value}
 use Rattle.dsm_lex.specs.declared.spans.Span.{Span}
 
 -- the bytes of a span
@@ -57,9 +59,16 @@ words_of bytes = filter is_some_piece (pieces_of bytes)
 abbrev pub is_name_byte : ℕ → Bool
 is_name_byte b = is_ascii_lowercase b || is_ascii_digit b || (b == 95)
 
--- a name: 1 to 32 such bytes, of which the first is no digit
-pub record IsName (word : List ℕ) : Type 0 where
-  pub some : 1 ≤ length word
-  pub short : length word ≤ 32
-  pub first : IsFalse (is_ascii_digit (slice_index word 0))
-  pub bytes : EachIndex word (λ k. IsTrue (is_name_byte (slice_index word k)))
+-- the bytes are a name: 1 to 32 such bytes, of which the first is no digit
+abbrev pub is_name : List ℕ → Bool
+is_name word =
+    nat_le 1 (length word) && nat_le (length word) 32 && not (is_ascii_digit (slice_index word 0)) && list_all is_name_byte word
+
+-- the word is digits: 0 alone, or some that do not begin with 0
+abbrev pub is_numeral : List ℕ → Bool
+is_numeral [] = false
+is_numeral (b ∷ digits) = list_all is_ascii_digit (b ∷ digits) && (not (b == 48) || length digits == 0)
+
+-- the number that a word spells: it is below 2^64
+abbrev pub number_of : List ℕ → Option ℕ
+number_of word = let n = digits_value 10 word in if is_numeral word && nat_lt n (2 ^ 64) then Some n else None

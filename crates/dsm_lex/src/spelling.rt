@@ -1,5 +1,6 @@
-ghost use Rattle.std.specs.Prelude.{◌≡◌, ℕ, ◌<◌, ◌^◌, decimal, IsTrue, IfSome, IfNone, ◌↔◌, EachIndex, slice_index};
-ghost use Rattle.dsm_lex.specs.Lexical.{IsName, is_name_byte as name_byte};
+ghost use Rattle.std.specs.Prelude.{◌≡◌};
+ghost use Rattle.std.specs.List.{list_all};
+ghost use Rattle.dsm_lex.specs.Lexical.{number_of, is_name, is_name_byte as name_byte};
 
 use itoa::Buffer;
 use std::str;
@@ -8,8 +9,7 @@ const LONGEST_NAME: usize = 32;
 
 /// The number that a word spells: `0`, or digits that don't begin with 0, at most 2^64 - 1.
 pub fn number(word: &[u8]) -> Option<u64>
-    ensures some { IfSome result (λ n. word.now ≡ decimal n) }
-    ensures none { IfNone result ((n : ℕ) → n < 2 ^ 64 → word.now ≡ decimal n → ⊥) }
+    ensures { result ≡ number_of word.now }
 {
     let n: u64 = str::from_utf8(word).ok()?.parse().ok()?;
     // A number has one spelling: what it prints as.
@@ -22,7 +22,7 @@ pub fn number(word: &[u8]) -> Option<u64>
 
 /// Whether a word is a name: 1 to 32 bytes of a to z, 0 to 9 and _, not beginning with a digit.
 pub fn name(word: &[u8]) -> bool
-    ensures { IsTrue result ↔ IsName word.now }
+    ensures { result ≡ is_name word.now }
 {
     if word.is_empty() || word.len() > LONGEST_NAME {
         return false;
@@ -37,7 +37,7 @@ fn is_name_byte(byte: u8) -> bool
 }
 
 fn are_name_bytes(word: &[u8]) -> bool
-    ensures { IsTrue result ↔ EachIndex word.now (λ k. IsTrue (name_byte (slice_index word.now k))) }
+    ensures { result ≡ list_all name_byte word.now }
 {
     word.iter().all(|byte| is_name_byte(*byte))
 }

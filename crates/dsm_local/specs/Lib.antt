@@ -1,1 +1,4 @@
+pub mod Actions
+pub mod Following
 pub mod Local
+pub mod Readers

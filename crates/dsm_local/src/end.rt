@@ -3,6 +3,8 @@
 pub enum Trap {
     /// A load or store of address `w`, which is above the last word.
     Address { w: u64 },
+    /// A quotient or rest by 0.
+    DivideByZero,
     /// An instruction that no processor does yet.
     Later,
 }
@@ -14,4 +16,12 @@ pub enum End {
     Halted,
     /// It stopped before the instruction at place `at`, from 0.
     Trapped { at: u32, kind: Trap },
+    /// It had done as many instructions as it may, and a further one would have begun.
+    Spent,
+    /// It waited, and looked as often as it may.
+    Looked,
+    /// It waited, and saw that processor `by` had stopped.
+    Stopped { by: u32 },
+    /// It had no memory for a further entry.
+    NoMemory,
 }

@@ -1,4 +1,3 @@
-pub mod Actions
 pub mod Laws
 pub mod Processor
 pub mod Seen

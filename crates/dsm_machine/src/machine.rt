@@ -1,16 +1,17 @@
-ghost use Rattle.std.specs.Prelude.{◌≡◌, ◌+◌, ◌<◌, ◌≤◌, ◌++◌, ◌∷◌, [], None, Some, length, IfSome, IsOk, OnOk};
+ghost use Rattle.std.specs.Prelude.{◌≡◌, ℕ, ◌+◌, ◌<◌, ◌≤◌, ◌^◌, ◌++◌, ◌∷◌, [], None, Some, List, IfSome, IsOk, OnOk};
+ghost use Rattle.dsm_isa.specs.declared.instr.Instr.{Instr as instruction};
 ghost use Rattle.dsm_words.specs.Op.{place_of};
-ghost use Rattle.dsm_local.specs.Local.{moved, given, address};
-ghost use Rattle.dsm_machine.specs.Actions.{GoesOn, action_of, word_at};
-ghost use Rattle.dsm_machine.specs.Processor.{new_processor, next_action, next_op, after_event, events_left};
+ghost use Rattle.dsm_local.specs.Readers.{GoesOn, IsInside};
+ghost use Rattle.dsm_machine.specs.Processor.{new_processor, setting_of, next_action, op_of, next_op, after_action, after_pass, after_event, events_left, IsMade, IsLocal};
 
-use crate::action::Action;
+use crate::limits::DEFAULT_TURNS;
 use dsm_entry::entry::{Entry, NoMemory, Obj};
 use dsm_entry::trace::Trace;
 use dsm_isa::code::Code;
-use dsm_isa::instr::Instr;
-use dsm_isa::reg::{REGISTERS, Reg};
+use dsm_local::action::Action;
 use dsm_local::end::{End, Trap};
+use dsm_local::reader::Reader;
+use dsm_local::setting::Setting;
 use dsm_words::op::Op;
 use std::alloc::Global;
 use std::marker::Model;
@@ -19,15 +20,13 @@ use std::marker::Model;
 #[derive(Drop)]
 pub struct Machine {
     words: u32,
-    registers: [u64; REGISTERS],
-    place: u32,
+    reader: Reader,
     arrived: bool,
     trace: Trace,
     end: Option<End>,
 }
 
 impl Model for Machine {
-    ghost use Rattle.std.specs.Prelude.{◌≤◌};
     ghost use Rattle.dsm_machine.specs.Seen.{Seen};
 
     ghost Value = { Seen };
@@ -35,15 +34,13 @@ impl Model for Machine {
     ghost view = { λ m. record {
       words = m.words;
       processor = record {
-        reader = record { registers = m.registers; place = m.place };
+        reader = m.reader;
         arrived = m.arrived;
         trace = m.trace.list;
         end = m.end;
       };
       spare = m.trace.spare;
     } };
-
-    ghost invariant = { λ m. m.place ≤ 4096 };
 }
 
 impl Machine {
@@ -53,12 +50,13 @@ impl Machine {
         ensures words { result.words ≡ words }
         ensures processor { result.processor ≡ new_processor }
         ensures spare { result.spare ≡ 0 }
+        ensures made { (code : List instruction) → IsMade words code result.processor }
+        ensures local { (code : List instruction) → IsLocal words code result.processor }
     {
         let _only = p;
         Machine {
             words,
-            registers: [0; REGISTERS],
-            place: 0,
+            reader: Reader::new(),
             arrived: false,
             trace: Trace::new(alloc),
             end: None,
@@ -82,81 +80,26 @@ impl Machine {
         ensures within { IfSome result (λ op. place_of op ≤ self.now.words) }
     {
         match self.end {
-            None => Some(self.next_action(code).op()),
+            None if self.arrived => Some(Op::Load { at: 0 }),
+            None => Some(op_of(self.action(code))),
             Some(_) => None,
         }
     }
 
-    fn next_action(&self, code: &Code) -> Action
+    /// What it does next, where it has not arrived.
+    fn action(&self, code: &Code) -> Action
         ensures value { result ≡ next_action self.now.words code.now self.now.processor }
-        ensures inside { GoesOn result → self.now.processor.reader.place < length code.now }
-        ensures within { GoesOn result → self.now.processor.reader.place < 4096 }
+        ensures place { GoesOn result → self.now.processor.reader.place + 1 < 2 ^ 32 }
+        ensures done { GoesOn result → self.now.processor.reader.done + 1 < 2 ^ 64 }
+        ensures inside { IsInside self.now.words result }
     {
-        if self.arrived {
-            return Action::Leave;
-        }
-        match code.get(self.place) {
-            Some(instr) => self.action_of(instr),
-            None => Action::Arrive,
-        }
-    }
-
-    /// What this instruction does.
-    fn action_of(&self, instr: Instr) -> Action
-        ensures { result ≡ action_of self.now.words self.now.processor.reader (Some instr) }
-    {
-        match instr {
-            Instr::Li { d, k } => Action::Set { d, v: k },
-            Instr::Ld { d, a, k } => match self.word(a, k) {
-                Ok(w) => Action::LoadWord { d, w },
-                Err(w) => address_trap(w),
-            },
-            Instr::St { s, a, k } => match self.word(a, k) {
-                Ok(w) => Action::StoreWord {
-                    w,
-                    v: self.registers[s.index()],
-                },
-                Err(w) => address_trap(w),
-            },
-            Instr::Out { s } => Action::Print {
-                v: self.registers[s.index()],
-            },
-            Instr::Halt => Action::Arrive,
-            _ => Action::Trap { kind: Trap::Later },
-        }
-    }
-
-    /// The word at the address `a + k`, or the address, where there is no such word.
-    fn word(&self, a: Reg, k: u64) -> Result<u32, u64>
-        ensures { result ≡ word_at self.now.words (address self.now.processor.reader a k) }
-    {
-        let address = self.registers[a.index()].wrapping_add(k);
-        if address < u64::from(self.words) {
-            Ok(address as u32)
-        } else {
-            Err(address)
-        }
-    }
-
-    /// Goes on to the next instruction.
-    fn go_on(&mut self)
-        requires { self.old.processor.reader.place < 4096 }
-        ensures words { self.new.words ≡ self.old.words }
-        ensures processor { self.new.processor ≡ record self.old.processor { reader = moved self.old.processor.reader } }
-        ensures spare { self.new.spare ≡ self.old.spare }
-    {
-        self.place += 1;
-    }
-
-    /// Goes on to the next instruction with register `d` at `v`.
-    fn give(&mut self, d: Reg, v: u64)
-        requires { self.old.processor.reader.place < 4096 }
-        ensures words { self.new.words ≡ self.old.words }
-        ensures processor { self.new.processor ≡ record self.old.processor { reader = given self.old.processor.reader d v } }
-        ensures spare { self.new.spare ≡ self.old.spare }
-    {
-        self.registers[d.index()] = v;
-        self.place += 1;
+        let setting = Setting {
+            size: self.words,
+            p: 0,
+            procs: 1,
+            turns: DEFAULT_TURNS,
+        };
+        self.reader.next(code, setting)
     }
 
     /// Appends an entry to the trace.
@@ -172,30 +115,57 @@ impl Machine {
     pub fn after(&mut self, code: &Code, got: u64)
         requires runs { self.old.processor.end ≡ None }
         requires room { 0 < self.old.spare }
+        // All earlier calls had this code.
+        requires made { IsMade self.old.words code.now self.old.processor }
         ensures words { self.new.words ≡ self.old.words }
         ensures event { self.new.processor ≡ after_event self.old.words code.now self.old.processor got }
-        ensures fewer { events_left code.now self.new.processor < events_left code.now self.old.processor }
+        ensures made { IsMade self.new.words code.now self.new.processor }
+        ensures local { IsLocal self.new.words code.now self.new.processor }
+        ensures fewer { events_left self.new.processor < events_left self.old.processor }
     {
-        match self.next_action(code) {
+        self.go_on(code, got);
+    }
+
+    /// Makes the next event.
+    fn go_on(&mut self, code: &Code, got: u64)
+        requires runs { self.old.processor.end ≡ None }
+        requires room { 0 < self.old.spare }
+        ensures words { self.new.words ≡ self.old.words }
+        ensures event { self.new.processor ≡ after_event self.old.words code.now self.old.processor got }
+        ensures fewer { events_left self.new.processor < events_left self.old.processor }
+    {
+        if self.arrived {
+            self.leave();
+        } else {
+            self.take(self.action(code), got);
+        }
+    }
+
+    /// Does an action, given the answer of its operation.
+    fn take(&mut self, action: Action, got: u64)
+        requires room { 0 < self.old.spare }
+        requires place { GoesOn action → self.old.processor.reader.place + 1 < 2 ^ 32 }
+        requires done { GoesOn action → self.old.processor.reader.done + 1 < 2 ^ 64 }
+        ensures words { self.new.words ≡ self.old.words }
+        ensures action { self.new.processor ≡ after_action self.old.processor action got }
+    {
+        match action {
+            Action::Set { d, v } => self.reader = self.reader.given(d, v),
+            Action::Jump { to } => self.reader = self.reader.jumped(to),
             Action::LoadWord { d, w } => {
                 self.note(Entry::Load { w, v: got });
-                self.give(d, got);
+                self.reader = self.reader.given(d, got);
             }
             Action::StoreWord { w, v } => {
                 self.note(Entry::Store { w, v });
-                self.go_on();
+                self.reader = self.reader.moved();
             }
-            Action::Set { d, v } => self.give(d, v),
             Action::Print { v } => {
                 self.note(Entry::Out { v });
-                self.go_on();
+                self.reader = self.reader.moved();
             }
-            Action::Trap { kind } => {
-                self.end = Some(End::Trapped {
-                    at: self.place,
-                    kind,
-                });
-            }
+            Action::Trap { kind } => self.trap(kind),
+            Action::Spend => self.end = Some(End::Spent),
             Action::Arrive => {
                 self.note(Entry::Signal {
                     o: Obj::Close,
@@ -203,14 +173,31 @@ impl Machine {
                 });
                 self.arrived = true;
             }
-            Action::Leave => {
-                self.note(Entry::Pass {
-                    o: Obj::Close,
-                    c: 1,
-                });
-                self.end = Some(End::Halted);
-            }
         }
+    }
+
+    /// Ends before an instruction that can't be done.
+    fn trap(&mut self, kind: Trap)
+        ensures words { self.new.words ≡ self.old.words }
+        ensures processor { self.new.processor ≡ record self.old.processor { end = Some (End.Trapped self.old.processor.reader.place kind) } }
+    {
+        self.end = Some(End::Trapped {
+            at: self.reader.place,
+            kind,
+        });
+    }
+
+    /// Passes the closing barrier.
+    fn leave(&mut self)
+        requires { 0 < self.old.spare }
+        ensures words { self.new.words ≡ self.old.words }
+        ensures pass { self.new.processor ≡ after_pass self.old.processor }
+    {
+        self.note(Entry::Pass {
+            o: Obj::Close,
+            c: 1,
+        });
+        self.end = Some(End::Halted);
     }
 
     /// How the machine ended, and None exactly where it has not.
@@ -228,11 +215,19 @@ impl Machine {
     }
 }
 
-/// Ends a processor whose load or store names no word.
-fn address_trap(w: u64) -> Action
-    ensures { result ≡ Action.Trap (Trap.Address w) }
+/// The operation that this is: one on the word of its address, or a load of the stop word, at place 0, whose
+/// answer is not used. Word `w` stands at place `1 + w`.
+fn op_of(action: Action) -> Op
+    ensures { result ≡ op_of action }
 {
-    Action::Trap {
-        kind: Trap::Address { w },
+    match action {
+        Action::LoadWord { d: _, w } => Op::Load {
+            at: 1 + u64::from(w),
+        },
+        Action::StoreWord { w, v } => Op::Store {
+            at: 1 + u64::from(w),
+            v,
+        },
+        _ => Op::Load { at: 0 },
     }
 }

@@ -1,43 +1,73 @@
--- How the one processor of a run ended.
-use Rattle.std.proofs.Common.{◌≡◌, ℕ, List, [], ◌∷◌, Option, None, Some, refl, ap, ◌∙◌, slice_get}
-use Rattle.std.specs.Prelude.{All}
+-- How the one processor of a run ends.
+use Rattle.std.proofs.Common.{◌≡◌, ℕ, zero, suc, Bool, true, false, List, [], ◌∷◌, Option, None, Some, refl, sym, ap, subst, ◌∙◌, inl, inr}
+use Rattle.std.specs.Prelude.{All, IsSomeAnd}
 use Rattle.std.proofs.lemmas.List.Elements.{All-from_recursion}
 use Rattle.dsm_isa.specs.declared.instr.Instr.{Instr}
-use Rattle.dsm_isa.specs.declared.instr.Instr.TheVariants.{Li, Ld, St, Out, Halt}
+use Rattle.dsm_isa.specs.ProgramText.{ProgramText}
+use Rattle.dsm_entry.specs.declared.entry.Entry.{Entry}
+use Rattle.dsm_local.specs.declared.action.Action.{Action}
+use Rattle.dsm_local.specs.declared.action.Action.TheVariants.{Set, Jump, LoadWord, StoreWord, Print, Trap, Spend, Arrive}
 use Rattle.dsm_local.specs.declared.end.End.{End}
-use Rattle.dsm_local.specs.declared.end.End.TheVariants.{Halted, Trapped}
-use Rattle.dsm_local.specs.declared.end.Trap.TheVariants.{Address, Later}
-use Rattle.dsm_local.specs.Local.{Reader, Stand, Before, Arrived, Passed, IsLater, Traps, MayEnd}
-use Rattle.dsm_lex.specs.Lexical.{lines_of}
-use Rattle.dsm_top.specs.Text.{InRange, StandsFor}
-use Rattle.dsm_top.proofs.Lines.{AreLines-fit}
-use Rattle.dsm_top.specs.Answer.{AllHalted, TrapsAddress}
+use Rattle.dsm_local.specs.declared.end.End.TheVariants.{Halted, Trapped, Spent}
+use Rattle.dsm_local.specs.declared.reader.Reader.{Reader}
+use Rattle.dsm_words.specs.declared.op.Op.{Op}
+use Rattle.dsm_machine.specs.Processor.{Processor, next_action, next_op, after_action, after_event}
+use Rattle.dsm_top.specs.Account.{Account}
+use Rattle.dsm_top.specs.declared.plans.Plan.{Plan}
+use Rattle.dsm_top.specs.declared.plans.Plan.TheVariants.{Check, List as Listing, Sim}
+use Rattle.dsm_top.specs.Answer.{Answers, IsStopped}
+use Rattle.dsm_top.specs.Run.{State, size_of, state_after, after, Runs, AllHalted}
 
--- the code that a text stands for has only instructions that a text can say
-pub fits-code : (text : List ℕ) (w : ℕ) (code : List Instr) → StandsFor text w code → (k : ℕ) (i : Instr) → slice_get code k ≡ Some i → InRange i
-fits-code text w code stands k i at = AreLines-fit (lines_of text) stands.are stands.in_form.each k i (ap (λ c. slice_get c k) stands.instructions ∙ at)
+-- a processor that waits for nobody has one of these ends, or none yet
+abbrev pub IsOwnEnd : Option End → Type 0
+IsOwnEnd None = Unit {0}
+IsOwnEnd (Some Halted) = Unit {0}
+IsOwnEnd (Some (Trapped place kind)) = Unit {0}
+IsOwnEnd (Some Spent) = Unit {0}
+IsOwnEnd _ = ⊥
 
--- what a text can say is done by a processor
-not_later : (i : Instr) → InRange i → IsLater i → ⊥
-not_later (Li d k) fits later = later
-not_later (Ld d a k) fits later = later
-not_later (St s a k) fits later = later
-not_later (Out s) fits later = later
-not_later Halt fits later = later
-not_later _ fits later = fits
+IsOwnEnd-action : (p : Processor) (a : Action) (got : ℕ) → IsOwnEnd p.end → IsOwnEnd (after_action p a got).end
+IsOwnEnd-action p (Trap kind) got h = tt
+IsOwnEnd-action p Spend got h = tt
+IsOwnEnd-action p _ got h = h
 
-later_trap : (size : ℕ) (r : Reader) (o : Option Instr) → Traps size r o Later → (i : Instr) × (o ≡ Some i) × IsLater i
-later_trap size r (Some i) later = (i, refl, later)
-later_trap size r None later = absurd later
+IsOwnEnd-event : (size : ℕ) (code : List Instr) (r : Reader) (arrived : Bool) (t : List Entry) (e : Option End) (got : ℕ) → IsOwnEnd e → IsOwnEnd (after_event size code (record { reader = r; arrived = arrived; trace = t; end = e }) got).end
+IsOwnEnd-event size code r arrived t (Some e) got h = h
+IsOwnEnd-event size code r true t None got h = tt
+IsOwnEnd-event size code r false t None got h =
+    let p : Processor = record { reader = r; arrived = false; trace = t; end = None } in
+    IsOwnEnd-action p (next_action size code p) got tt
 
-never_later : (size : ℕ) (code : List Instr) (s : Stand) (place : ℕ) → ((k : ℕ) (i : Instr) → slice_get code k ≡ Some i → InRange i) → MayEnd size code s (Some (Trapped place Later)) → ⊥
-never_later size code (Before r) place fits may = let t = later_trap size r (slice_get code r.place) may.1 in not_later t.0 (fits r.place t.0 t.1) t.2
-never_later size code Arrived place fits may = may
-never_later size code Passed place fits may = may
+IsOwnEnd-state : (p : ProgramText) (s : State) (op : Option Op) → IsOwnEnd s.processor.end → IsOwnEnd (state_after p s op).processor.end
+IsOwnEnd-state p s None h = h
+IsOwnEnd-state p s (Some op) h = IsOwnEnd-event (size_of p) p.code s.processor.reader s.processor.arrived s.processor.trace s.processor.end _ h
 
--- a processor that ended without halting, whose code a text can say, trapped at an address
-pub TrapsAddress-unless_halted : (size : ℕ) (code : List Instr) (ends : List (Option End)) (s : Stand) (e : End) → ((k : ℕ) (i : Instr) → slice_get code k ≡ Some i → InRange i) → MayEnd size code s (Some e)
-    → ends ≡ Some e ∷ [] → (AllHalted ends → ⊥) → TrapsAddress ends
-TrapsAddress-unless_halted size code ends s Halted fits may is other = absurd (other (rw is (All-from_recursion (λ (x : Option End). x ≡ Some Halted) (Some Halted ∷ []) (refl, tt))))
-TrapsAddress-unless_halted size code ends s (Trapped place (Address w)) fits may is other = (place, w, is)
-TrapsAddress-unless_halted size code ends s (Trapped place Later) fits may is other = absurd (never_later size code s place fits may)
+IsOwnEnd-after : (p : ProgramText) (n : ℕ) → IsOwnEnd (after p n).processor.end
+IsOwnEnd-after p zero = tt
+IsOwnEnd-after p (suc n) =
+    let s = after p n in
+    IsOwnEnd-state p s (next_op (size_of p) p.code s.processor) (IsOwnEnd-after p n)
+
+stopped : (ends : List (Option End)) (e : End) → IsOwnEnd (Some e) → ends ≡ Some e ∷ [] → (AllHalted ends → ⊥) → IsStopped ends
+stopped ends Halted own is other = absurd (other (rw is (All-from_recursion (λ (x : Option End). x ≡ Some Halted) (Some Halted ∷ []) (refl, tt))))
+stopped ends (Trapped place kind) own is other = inl (place, kind, is)
+stopped ends Spent own is other = inr is
+stopped ends _ own is other = absurd own
+
+-- a run that ended without halting was stopped
+pub IsStopped-unless_halted : (p : ProgramText) (a : Account) → Runs p a → (AllHalted a.ends → ⊥) → IsStopped a.ends
+IsStopped-unless_halted p a runs other =
+    let n = runs.reached.0 in
+    let s = after p n in
+    let same : s.processor.end ∷ [] ≡ Some runs.end ∷ [] = ap (λ (x : Account). x.ends) (sym runs.reached.1) ∙ runs.ends.end in
+    let end : s.processor.end ≡ Some runs.end = cc in
+    stopped a.ends runs.end (subst IsOwnEnd end (IsOwnEnd-after p n)) runs.ends.end other
+
+-- the answer to a plan whose run did not halt
+pub stopped-answer : (plan : Plan) (p : ProgramText) (ran : Option Account) (bytes : List ℕ) → Answers plan p ran bytes → IsSomeAnd ran (λ a. AllHalted a.ends → ⊥) → IsSomeAnd ran (λ a. IsStopped a.ends)
+stopped-answer Sim p (Some a) bytes answers other = IsStopped-unless_halted p a answers.0 other
+stopped-answer Sim p None bytes answers other = other
+stopped-answer Check p None bytes answers other = other
+stopped-answer Check p (Some a) bytes answers other = absurd (cc answers.0)
+stopped-answer Listing p None bytes answers other = other
+stopped-answer Listing p (Some a) bytes answers other = absurd (cc answers.0)

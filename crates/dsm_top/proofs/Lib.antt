@@ -1,8 +1,6 @@
-pub mod Cutting
-pub mod Lines
-pub mod Meaning
 pub mod Moments
-pub mod Spelling
+pub mod Memory
+pub mod Pages
 pub mod Words
 pub mod Ends
 pub mod Logs

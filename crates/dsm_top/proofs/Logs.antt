@@ -1,24 +1,22 @@
 -- The log of a run: what the processor did, newest first, with what the words then hold.
-use Rattle.std.proofs.Common.{◌≡◌, ◌≢◌, ℕ, zero, suc, ◌+◌, ◌<◌, ◌⊎◌, Bool, true, false, List, [], ◌∷◌, ◌++◌, Option, None, Some, length, length-append, drop, refl, sym, ap, ◌∙◌, inl, inr, arith, nat_lt, slice_get, slice_index, slice_set, replicate, if◌then◌else◌, ◌==◌}
-use Rattle.std.proofs.lemmas.Bool.Decides.{nat_tests}
+use Rattle.std.proofs.Common.{◌≡◌, ◌≢◌, ℕ, zero, suc, ◌+◌, ◌<◌, ◌⊎◌, Bool, true, false, List, [], ◌∷◌, ◌++◌, Option, None, Some, length, length-append, drop, refl, sym, ap, ◌∙◌, inl, inr, arith, slice_get, slice_index, slice_set, replicate, if◌then◌else◌, ◌==◌}
 use Rattle.std.proofs.lemmas.Bool.{cases_eq, eq-eqb, ne_eqb}
 use Rattle.std.proofs.Math.ListN.{length-set}
-use Rattle.std.proofs.lemmas.List.{length-replicate}
 use Rattle.std.proofs.lemmas.Grind.{get_or_after_one}
 use Rattle.std.proofs.Common.{get_or-set_same, get_or-set_other}
-use Rattle.dsm_isa.specs.declared.instr.Instr.{Instr}
-use Rattle.dsm_isa.specs.declared.instr.Instr.TheVariants.{Li, Ld, St, Out as Output, Halt}
+use Rattle.dsm_isa.specs.ProgramText.{ProgramText}
 use Rattle.dsm_entry.specs.declared.entry.Entry.{Entry}
 use Rattle.dsm_entry.specs.declared.entry.Entry.TheVariants.{Load, Store, Signal, Pass, Out}
 use Rattle.dsm_entry.specs.declared.entry.Obj.TheVariants.{Close}
 use Rattle.dsm_local.specs.declared.end.End.{End}
-use Rattle.dsm_local.specs.declared.end.Trap.TheVariants.{Address}
-use Rattle.dsm_local.specs.Local.{Reader, address}
+use Rattle.dsm_local.specs.declared.action.Action.{Action}
+use Rattle.dsm_local.specs.declared.action.Action.TheVariants.{Set, Jump, LoadWord, StoreWord, Print, Trap, Spend, Arrive}
+use Rattle.dsm_local.specs.declared.reader.Reader.{Reader}
+use Rattle.dsm_local.specs.Readers.{next_action, IsInside}
+use Rattle.dsm_local.proofs.Inside.{IsInside-next_action}
 use Rattle.dsm_words.specs.Op.{answer_of, words_after}
-use Rattle.dsm_machine.specs.declared.action.Action.{Action}
-use Rattle.dsm_machine.specs.declared.action.Action.TheVariants.{LoadWord, StoreWord, Print, Trap, Arrive, Leave}
-use Rattle.dsm_machine.specs.Actions.{action_of, op_of}
-use Rattle.dsm_machine.specs.Processor.{Processor, after_action, next_op}
+use Rattle.dsm_words.specs.declared.op.Op.TheVariants.{Load as Read}
+use Rattle.dsm_machine.specs.Processor.{Processor, setting_of, op_of, after_action, after_pass, next_op}
 use Rattle.dsm_flat.specs.Flat.{Flat, Sourced, Final}
 use Rattle.dsm_flat.specs.Sync.{SyncLegal}
 use Rattle.dsm_flat.specs.Laws.{Raises}
@@ -26,7 +24,8 @@ use Rattle.dsm_flat.proofs.OrderLaws.{Ordered-one}
 use Rattle.dsm_flat.proofs.History.{Deed, Log, mine, mine_own, mine_other, get_push_new, IsHistory, history_one, rank}
 use Rattle.dsm_flat.proofs.Legal.{signals, counted_signal, Legal, rank_raises, sync_legal}
 use Rattle.dsm_flat.proofs.Flatness.{latest, InOrder, sourced, flat, final_value}
-use Rattle.dsm_top.specs.Run.{State, state_after, after}
+use Rattle.dsm_top.specs.Run.{State, size_of, first_value, state_after, after}
+use Rattle.dsm_top.proofs.Memory.{length-first_words, first_words-value}
 
 -- how far the processor is with the closing barrier, as the log shows it
 pub record HasArrived (log : Log) : Type 0 where
@@ -41,13 +40,13 @@ Closing None true log = HasArrived log
 Closing (Some e) arrived log = Unit {0}
 
 -- the log is that of the state: of processor 0 alone, legal, each load in order, and each word holds its latest store
-pub record Tells (size : ℕ) (s : State) (log : Log) : Type 0 where
+pub record Tells (size : ℕ) (first : ℕ → ℕ) (s : State) (log : Log) : Type 0 where
   pub own : s.processor.trace ≡ mine 0 log
   pub alone : (q : ℕ) → q ≢ 0 → mine q log ≡ []
   pub legal : Legal 1 log
-  pub in_order : InOrder (λ _. 0) log
+  pub in_order : InOrder first log
   pub room : length s.words ≡ size + 1
-  pub words : (w : ℕ) → w < size → slice_index s.words (1 + w) ≡ latest 0 w log
+  pub words : (w : ℕ) → w < size → slice_index s.words (1 + w) ≡ latest (first w) w log
   pub closing : Closing s.processor.end s.processor.arrived log
 
 abbrev by_0 : Entry → Deed
@@ -60,11 +59,11 @@ alone-more : (log : Log) (e : Entry) → ((q : ℕ) → q ≢ 0 → mine q log �
 alone-more log e alone q ne = mine_other (by_0 e) log q (λ z. ne (sym z)) ∙ alone q ne
 
 -- a store shows in its own word alone
-words-stored : (size : ℕ) (words : List ℕ) (log : Log) (w v : ℕ) → length words ≡ size + 1 → w < size → ((u : ℕ) → u < size → slice_index words (1 + u) ≡ latest 0 u log)
-    → (u : ℕ) → u < size → slice_index (slice_set words (1 + w) v) (1 + u) ≡ (if w == u then v else latest 0 u log)
-words-stored size words log w v room inside held u below = pick (cases_eq w u)
+words-stored : (size : ℕ) (first : ℕ → ℕ) (words : List ℕ) (log : Log) (w v : ℕ) → length words ≡ size + 1 → w < size → ((u : ℕ) → u < size → slice_index words (1 + u) ≡ latest (first u) u log)
+    → (u : ℕ) → u < size → slice_index (slice_set words (1 + w) v) (1 + u) ≡ (if w == u then v else latest (first u) u log)
+words-stored size first words log w v room inside held u below = pick (cases_eq w u)
   where
-    pick : (w ≡ u) ⊎ (w ≡ u → ⊥) → slice_index (slice_set words (1 + w) v) (1 + u) ≡ (if w == u then v else latest 0 u log)
+    pick : (w ≡ u) ⊎ (w ≡ u → ⊥) → slice_index (slice_set words (1 + w) v) (1 + u) ≡ (if w == u then v else latest (first u) u log)
     pick (inl same) =
         let fits : 1 + w < length words = omega (arith, room, inside) in
         rw (eq-eqb w u same) (rw (← same) (rw get_or-set_same refl))
@@ -80,16 +79,22 @@ behind words r arrived t a =
 abbrev running : List ℕ → Reader → Bool → List Entry → State
 running words r arrived t = record { words = words; processor = record { reader = r; arrived = arrived; trace = t; end = None } }
 
-pub record Goes (size : ℕ) (s : State) : Type 0 where
+pub record Goes (size : ℕ) (first : ℕ → ℕ) (s : State) : Type 0 where
   pub log : Log
-  pub tells : Tells size s log
+  pub tells : Tells size first s log
 
-goes-load : (size : ℕ) (words : List ℕ) (r : Reader) (t : List Entry) (d w : ℕ) (log : Log) (within : Bool) → nat_lt w size ≡ within → Tells size (running words r false t) log
-    → Goes size (behind words r false t (if nat_lt w size then LoadWord d w else Trap (Address w)))
-goes-load size words r t d w log true test h =
-    let inside : w < size = grind (arith, nat_tests) in
+-- what is neither noted nor stored leaves the log
+goes-silent : (size : ℕ) (first : ℕ → ℕ) (words : List ℕ) (r : Reader) (t : List Entry) (q : Reader) (log : Log) → Tells size first (running words r false t) log → Goes size first (running words q false t)
+goes-silent size first words r t q log h = record { log = log; tells = record { own = h.own; alone = h.alone; legal = h.legal; in_order = h.in_order; room = h.room; words = h.words; closing = h.closing } }
+
+goes-end : (size : ℕ) (first : ℕ → ℕ) (words : List ℕ) (r : Reader) (t : List Entry) (e : End) (log : Log) → Tells size first (running words r false t) log
+    → Goes size first (record { words = words; processor = record { reader = r; arrived = false; trace = t; end = Some e } })
+goes-end size first words r t e log h = record { log = log; tells = record { own = h.own; alone = h.alone; legal = h.legal; in_order = h.in_order; room = h.room; words = h.words; closing = tt } }
+
+goes-load : (size : ℕ) (first : ℕ → ℕ) (words : List ℕ) (r : Reader) (t : List Entry) (d w : ℕ) (log : Log) → w < size → Tells size first (running words r false t) log → Goes size first (behind words r false t (LoadWord d w))
+goes-load size first words r t d w log inside h =
     let e : Entry = Load w (slice_index words (1 + w)) in
-    rw test (record {
+    record {
       log = by_0 e ∷ log;
       tells = record {
         own = own-more t log e h.own;
@@ -100,16 +105,12 @@ goes-load size words r t d w log true test h =
         words = h.words;
         closing = h.closing;
       };
-    })
-goes-load size words r t d w log false test h =
-    rw test (record { log = log; tells = record { own = h.own; alone = h.alone; legal = h.legal; in_order = h.in_order; room = h.room; words = h.words; closing = tt } })
+    }
 
-goes-store : (size : ℕ) (words : List ℕ) (r : Reader) (t : List Entry) (v w : ℕ) (log : Log) (within : Bool) → nat_lt w size ≡ within → Tells size (running words r false t) log
-    → Goes size (behind words r false t (if nat_lt w size then StoreWord w v else Trap (Address w)))
-goes-store size words r t v w log true test h =
-    let inside : w < size = grind (arith, nat_tests) in
+goes-store : (size : ℕ) (first : ℕ → ℕ) (words : List ℕ) (r : Reader) (t : List Entry) (v w : ℕ) (log : Log) → w < size → Tells size first (running words r false t) log → Goes size first (behind words r false t (StoreWord w v))
+goes-store size first words r t v w log inside h =
     let e : Entry = Store w v in
-    rw test (record {
+    record {
       log = by_0 e ∷ log;
       tells = record {
         own = own-more t log e h.own;
@@ -117,15 +118,13 @@ goes-store size words r t v w log true test h =
         legal = (tt, h.legal);
         in_order = (tt, h.in_order);
         room = length-set words (1 + w) v ∙ h.room;
-        words = words-stored size words log w v h.room inside h.words;
+        words = words-stored size first words log w v h.room inside h.words;
         closing = h.closing;
       };
-    })
-goes-store size words r t v w log false test h =
-    rw test (record { log = log; tells = record { own = h.own; alone = h.alone; legal = h.legal; in_order = h.in_order; room = h.room; words = h.words; closing = tt } })
+    }
 
-goes-print : (size : ℕ) (words : List ℕ) (r : Reader) (t : List Entry) (v : ℕ) (log : Log) → Tells size (running words r false t) log → Goes size (behind words r false t (Print v))
-goes-print size words r t v log h =
+goes-print : (size : ℕ) (first : ℕ → ℕ) (words : List ℕ) (r : Reader) (t : List Entry) (v : ℕ) (log : Log) → Tells size first (running words r false t) log → Goes size first (behind words r false t (Print v))
+goes-print size first words r t v log h =
     record {
       log = by_0 (Out v) ∷ log;
       tells = record {
@@ -139,8 +138,8 @@ goes-print size words r t v log h =
       };
     }
 
-goes-arrive : (size : ℕ) (words : List ℕ) (r : Reader) (t : List Entry) (log : Log) → Tells size (running words r false t) log → Goes size (behind words r false t Arrive)
-goes-arrive size words r t log h =
+goes-arrive : (size : ℕ) (first : ℕ → ℕ) (words : List ℕ) (r : Reader) (t : List Entry) (log : Log) → Tells size first (running words r false t) log → Goes size first (behind words r false t Arrive)
+goes-arrive size first words r t log h =
     let e : Entry = Signal Close 0 in
     let more : mine 0 (by_0 e ∷ log) ≡ mine 0 log ++ e ∷ [] = mine_own (by_0 e) log 0 refl in
     record {
@@ -161,8 +160,8 @@ goes-arrive size words r t log h =
       };
     }
 
-goes-leave : (size : ℕ) (words : List ℕ) (r : Reader) (t : List Entry) (log : Log) → Tells size (running words r true t) log → Goes size (behind words r true t Leave)
-goes-leave size words r t log h =
+goes-leave : (size : ℕ) (first : ℕ → ℕ) (words : List ℕ) (r : Reader) (t : List Entry) (log : Log) → Tells size first (running words r true t) log → Goes size first (record { words = words; processor = after_pass (record { reader = r; arrived = true; trace = t; end = None }) })
+goes-leave size first words r t log h =
     let e : Entry = Pass Close 1 in
     record {
       log = by_0 e ∷ log;
@@ -177,33 +176,28 @@ goes-leave size words r t log h =
       };
     }
 
-goes-instruction : (size : ℕ) (words : List ℕ) (r : Reader) (t : List Entry) (log : Log) (i : Option Instr) → Tells size (running words r false t) log → Goes size (behind words r false t (action_of size r i))
-goes-instruction size words r t log (Some (Li d k)) h =
-    record { log = log; tells = record { own = h.own; alone = h.alone; legal = h.legal; in_order = h.in_order; room = h.room; words = h.words; closing = h.closing } }
-goes-instruction size words r t log (Some (Ld d a k)) h = goes-load size words r t d (address r a k) log (nat_lt (address r a k) size) refl h
-goes-instruction size words r t log (Some (St s a k)) h = goes-store size words r t (slice_index r.registers s) (address r a k) log (nat_lt (address r a k) size) refl h
-goes-instruction size words r t log (Some (Output s)) h = goes-print size words r t (slice_index r.registers s) log h
-goes-instruction size words r t log (Some Halt) h = goes-arrive size words r t log h
-goes-instruction size words r t log None h = goes-arrive size words r t log h
-goes-instruction size words r t log (Some _) h =
-    record { log = log; tells = record { own = h.own; alone = h.alone; legal = h.legal; in_order = h.in_order; room = h.room; words = h.words; closing = tt } }
+goes-action : (size : ℕ) (first : ℕ → ℕ) (words : List ℕ) (r : Reader) (t : List Entry) (log : Log) (a : Action) → IsInside size a → Tells size first (running words r false t) log → Goes size first (behind words r false t a)
+goes-action size first words r t log (Set d v) inside h = goes-silent size first words r t _ log h
+goes-action size first words r t log (Jump to) inside h = goes-silent size first words r t _ log h
+goes-action size first words r t log (LoadWord d w) inside h = goes-load size first words r t d w log inside h
+goes-action size first words r t log (StoreWord w v) inside h = goes-store size first words r t v w log inside h
+goes-action size first words r t log (Print v) inside h = goes-print size first words r t v log h
+goes-action size first words r t log (Trap kind) inside h = goes-end size first words r t _ log h
+goes-action size first words r t log Spend inside h = goes-end size first words r t _ log h
+goes-action size first words r t log Arrive inside h = goes-arrive size first words r t log h
 
-goes-event : (size : ℕ) (code : List Instr) (words : List ℕ) (r : Reader) (arrived : Bool) (t : List Entry) (e : Option End) (log : Log)
-    → Tells size (record { words = words; processor = record { reader = r; arrived = arrived; trace = t; end = e } }) log
-    → let p : Processor = record { reader = r; arrived = arrived; trace = t; end = e } in Goes size (state_after size code (record { words = words; processor = p }) (next_op size code p))
-goes-event size code words r arrived t (Some e) log h = record { log = log; tells = h }
-goes-event size code words r true t None log h = goes-leave size words r t log h
-goes-event size code words r false t None log h = goes-instruction size words r t log (slice_get code r.place) h
-
--- all words are 0 at the start
-zeros : (n k : ℕ) → slice_index (replicate n 0) k ≡ 0
-zeros zero k = refl
-zeros (suc n) zero = refl
-zeros (suc n) (suc k) = zeros n k
+goes-event : (p : ProgramText) (words : List ℕ) (r : Reader) (arrived : Bool) (t : List Entry) (e : Option End) (log : Log)
+    → Tells (size_of p) (first_value p) (record { words = words; processor = record { reader = r; arrived = arrived; trace = t; end = e } }) log
+    → let q : Processor = record { reader = r; arrived = arrived; trace = t; end = e } in Goes (size_of p) (first_value p) (state_after p (record { words = words; processor = q }) (next_op (size_of p) p.code q))
+goes-event p words r arrived t (Some e) log h = record { log = log; tells = h }
+goes-event p words r true t None log h = goes-leave (size_of p) (first_value p) words r t log h
+goes-event p words r false t None log h =
+    let s = setting_of (size_of p) in
+    goes-action (size_of p) (first_value p) words r t log (next_action p.code s r) (IsInside-next_action p.code s r) h
 
 -- each state of a run has its log
-pub goes : (size : ℕ) (code : List Instr) (n : ℕ) → Goes size (after size code n)
-goes size code zero =
+pub goes : (p : ProgramText) (n : ℕ) → Goes (size_of p) (first_value p) (after p n)
+goes p zero =
     record {
       log = [];
       tells = record {
@@ -211,23 +205,23 @@ goes size code zero =
         alone = λ q ne. refl;
         legal = tt;
         in_order = tt;
-        room = length-replicate (size + 1) 0;
-        words = λ w inside. zeros (size + 1) (1 + w);
+        room = length-first_words p;
+        words = first_words-value p;
         closing = refl;
       };
     }
-goes size code (suc n) =
-    let s = after size code n in
-    let g = goes size code n in
-    goes-event size code s.words s.processor.reader s.processor.arrived s.processor.trace s.processor.end g.log g.tells
+goes p (suc n) =
+    let s = after p n in
+    let g = goes p n in
+    goes-event p s.words s.processor.reader s.processor.arrived s.processor.trace s.processor.end g.log g.tells
 
 -- What follows for the trace of the one processor, at each moment of the run.
-module _ (size : ℕ) (code : List Instr) (n : ℕ) (t : List Entry) (same : t ≡ (after size code n).processor.trace) where
+module _ (p : ProgramText) (n : ℕ) (t : List Entry) (same : t ≡ (after p n).processor.trace) where
   abbrev log : Log
-  log = (goes size code n).log
+  log = (goes p n).log
 
-  abbrev tells : Tells size (after size code n) log
-  tells = (goes size code n).tells
+  abbrev tells : Tells (size_of p) (first_value p) (after p n) log
+  tells = (goes p n).tells
 
   history : IsHistory log (t ∷ [])
   history = history_one log t (same ∙ tells.own) tells.alone
@@ -238,14 +232,14 @@ module _ (size : ℕ) (code : List Instr) (n : ℕ) (t : List Entry) (same : t �
   pub legal : SyncLegal (t ∷ []) 1
   legal = sync_legal 1 log (t ∷ []) history tells.legal
 
-  pub sourced_all : (w : ℕ) → Sourced (t ∷ []) 0 w
-  sourced_all w = sourced (λ _. 0) log (t ∷ []) history raises tells.in_order w
+  pub sourced_all : (w : ℕ) → Sourced (t ∷ []) (first_value p w) w
+  sourced_all w = sourced (first_value p) log (t ∷ []) history raises tells.in_order w
 
-  pub flat_all : (w : ℕ) → Flat (t ∷ []) 0 w
-  flat_all w = flat (λ _. 0) log (t ∷ []) history raises tells.in_order w (Ordered-one t w)
+  pub flat_all : (w : ℕ) → Flat (t ∷ []) (first_value p w) w
+  flat_all w = flat (first_value p) log (t ∷ []) history raises tells.in_order w (Ordered-one t w)
 
-  pub final_all : (w : ℕ) → w < size → Final (t ∷ []) 0 w (slice_index (drop 1 (after size code n).words) w)
+  pub final_all : (w : ℕ) → w < size_of p → Final (t ∷ []) (first_value p w) w (slice_index (drop 1 (after p n).words) w)
   final_all w inside =
-      let words = (after size code n).words in
-      let held : slice_index (drop 1 words) w ≡ latest 0 w log = get_or_after_one words w 0 ∙ tells.words w inside in
-      rw held (final_value (λ _. 0) log (t ∷ []) history raises tells.in_order w (Ordered-one t w))
+      let words = (after p n).words in
+      let held : slice_index (drop 1 words) w ≡ latest (first_value p w) w log = get_or_after_one words w 0 ∙ tells.words w inside in
+      rw held (final_value (first_value p) log (t ∷ []) history raises tells.in_order w (Ordered-one t w))

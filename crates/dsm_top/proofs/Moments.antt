@@ -1,21 +1,21 @@
 -- A run, event by event.
-use Rattle.std.proofs.Common.{◌≡◌, ℕ, zero, suc, ◌+◌, ◌%◌, ◌^◌, ◌==◌, Bool, true, false, if◌then◌else◌, List, [], ◌∷◌, ◌++◌, Option, None, Some, length, take, drop, append-nil, arith, refl, sym, ap, ◌∙◌}
+use Rattle.std.proofs.Common.{◌≡◌, ℕ, suc, ◌+◌, ◌%◌, ◌^◌, ◌==◌, Bool, true, false, if◌then◌else◌, List, [], ◌++◌, Option, None, Some, length, take, drop, append-nil, arith, refl, sym, ap, ◌∙◌}
 use Rattle.std.specs.Prelude.{slice_index, slice_set, bit_or}
 use Rattle.std.proofs.lemmas.List.{take_all, drop_all}
 use Rattle.std.proofs.Math.ListN.{length-set}
-use Rattle.dsm_isa.specs.declared.instr.Instr.{Instr}
+use Rattle.dsm_isa.specs.ProgramText.{ProgramText}
 use Rattle.dsm_words.specs.declared.op.Op.{Op}
 use Rattle.dsm_words.specs.declared.op.Op.TheVariants.{Load, Store, Swap, Exchange, Add, Or}
 use Rattle.dsm_words.specs.Op.{answer_of, words_after}
 use Rattle.dsm_local.specs.declared.end.End.{End}
-use Rattle.dsm_machine.specs.declared.action.Action.{Action}
-use Rattle.dsm_machine.specs.Processor.{Processor, new_processor, op_unless, next_op, after_event, after_answers}
-use Rattle.dsm_top.specs.Run.{State, state_after, after}
+use Rattle.dsm_local.specs.declared.action.Action.{Action}
+use Rattle.dsm_machine.specs.Processor.{op_unless, next_op, after_event}
+use Rattle.dsm_top.specs.Run.{State, size_of, state_after, after}
 
 -- the state behind the next operation is that of one event more
-pub after-next : (size : ℕ) (code : List Instr) (n : ℕ) (s : State) (op : Op) → s ≡ after size code n → next_op size code s.processor ≡ Some op
-    → record { words = words_after s.words op; processor = after_event size code s.processor (answer_of s.words op) } ≡ after size code (suc n)
-after-next size code n s op is next = sym (ap (state_after size code s) next) ∙ ap (λ (t : State). state_after size code t (next_op size code t.processor)) is
+pub after-next : (p : ProgramText) (n : ℕ) (s : State) (op : Op) → s ≡ after p n → next_op (size_of p) p.code s.processor ≡ Some op
+    → record { words = words_after s.words op; processor = after_event (size_of p) p.code s.processor (answer_of s.words op) } ≡ after p (suc n)
+after-next p n s op is next = sym (ap (state_after p s) next) ∙ ap (λ (t : State). state_after p t (next_op (size_of p) p.code t.processor)) is
 
 -- an operation leaves the number of words
 pub length-words_after : (words : List ℕ) (op : Op) → length (words_after words op) ≡ length words
@@ -31,28 +31,10 @@ length-words_after words (Add at k) = length-set words at ((slice_index words at
 length-words_after words (Or at bits) = length-set words at (bit_or (slice_index words at) bits)
 
 -- what has no next operation has ended
-pub end-from_no_op : (e : Option End) (a : Action) → op_unless e a ≡ None → (f : End) × (e ≡ Some f)
-end-from_no_op None a is = absurd (cc is)
-end-from_no_op (Some f) a is = (f, refl)
-
-after_answers-append : (size : ℕ) (code : List Instr) (p : Processor) (xs ys : List ℕ) → after_answers size code p (xs ++ ys) ≡ after_answers size code (after_answers size code p xs) ys
-after_answers-append size code p [] ys = refl
-after_answers-append size code p (x ∷ xs) ys = after_answers-append size code (after_event size code p x) xs ys
-
-answered_after : (size : ℕ) (code : List Instr) (s : State) (op : Option Op) (answers : List ℕ) → s.processor ≡ after_answers size code new_processor answers
-    → (more : List ℕ) × ((state_after size code s op).processor ≡ after_answers size code new_processor more)
-answered_after size code s None answers is = (answers, is)
-answered_after size code s (Some op) answers is =
-    let x = answer_of s.words op in
-    (answers ++ x ∷ [], ap (λ p. after_event size code p x) is ∙ sym (after_answers-append size code new_processor answers (x ∷ [])))
-
--- the processor of a run was given some list of answers
-pub answered : (size : ℕ) (code : List Instr) (n : ℕ) → (answers : List ℕ) × ((after size code n).processor ≡ after_answers size code new_processor answers)
-answered size code zero = ([], refl)
-answered size code (suc n) =
-    let s = after size code n in
-    let given = answered size code n in
-    answered_after size code s (next_op size code s.processor) given.0 given.1
+pub end-from_no_op : (e : Option End) (arrived : Bool) (a : Action) → op_unless e arrived a ≡ None → (f : End) × (e ≡ Some f)
+end-from_no_op None false a is = absurd (cc is)
+end-from_no_op None true a is = absurd (cc is)
+end-from_no_op (Some f) arrived a is = (f, refl)
 
 -- what was written through a whole slice is all that it then has
 pub take-whole : (new old : List ℕ) (n : ℕ) → length new ≡ n → length old ≡ n → take n (new ++ drop (length new) old) ≡ new

@@ -1,18 +1,24 @@
 -- What the top call read, and what it wrote.
-use Rattle.std.specs.Prelude.{◌≡◌, ℕ, ◌≤◌, ◌⊎◌, List, [], ◌∷◌, length, codes, All, Option, Some}
+use Rattle.std.specs.Prelude.{◌≡◌, ℕ, ◌≤◌, ◌⊎◌, List, [], ◌∷◌, length, codes, Option, None, Some}
 use Rattle.std.specs.Io.KnownBytes.{Appends, Consumes, IsAtEnd}
-use Rattle.dsm_isa.specs.declared.instr.Instr.{Instr}
-use Rattle.dsm_entry.specs.declared.entry.Entry.{Entry}
+use Rattle.dsm_isa.specs.ProgramText.{ProgramText}
+use Rattle.dsm_grammar.specs.declared.fault.AsmKind.{AsmKind}
+use Rattle.dsm_grammar.specs.Faults.{first_fault_of}
+use Rattle.dsm_grammar.specs.Grammar.{program_of}
+use Rattle.dsm_list.specs.Canonical.{canonical, shape_line}
 use Rattle.dsm_local.specs.declared.end.End.{End}
-use Rattle.dsm_local.specs.declared.end.End.TheVariants.{Halted, Trapped}
-use Rattle.dsm_local.specs.declared.end.Trap.TheVariants.{Address}
+use Rattle.dsm_local.specs.declared.end.End.TheVariants.{Trapped, Spent}
+use Rattle.dsm_local.specs.declared.end.Trap.{Trap}
 use Rattle.dsm_io.specs.Faults.{Rose}
 use Rattle.dsm_io.specs.Whole.{AppendsPrefix, ConsumesSome}
-use Rattle.dsm_top.specs.declared.text.fault.FaultKind.{FaultKind}
+use Rattle.dsm_top.specs.declared.plans.Plan.{Plan}
+use Rattle.dsm_top.specs.declared.plans.Plan.TheVariants.{Check, List as Listing, Sim}
+use Rattle.dsm_top.specs.declared.reading.Unread.{Unread}
+use Rattle.dsm_top.specs.declared.reading.Unread.TheVariants.{Fault, TooLong, Refused, NoMemory}
 use Rattle.dsm_top.specs.Account.{Account}
-use Rattle.dsm_top.specs.Text.{StandsFor, IsFault}
-use Rattle.dsm_top.specs.Run.{IsReached, EndsAs}
-use Rattle.dsm_top.specs.Report.{refused_line, kind_name}
+use Rattle.dsm_top.specs.Plans.{PlanOf}
+use Rattle.dsm_top.specs.Run.{Runs, IsFlatRun}
+use Rattle.dsm_top.specs.Report.{report, refused_line, kind_name}
 
 -- the text was read to the end of the source, and is no longer than 65,536 bytes
 pub record ReadsText (old new : Option (List ℕ)) (text : List ℕ) : Type 0 where
@@ -20,23 +26,32 @@ pub record ReadsText (old new : Option (List ℕ)) (text : List ℕ) : Type 0 wh
   pub end : IsAtEnd new
   pub within : length text ≤ 65536
 
--- the text that was read stands for a program, and this is the account of a run of it, to its end
-pub record Runs (old new : Option (List ℕ)) (a : Account) : Type 0 where
+-- the text that was read has no fault, and stands for this program
+pub record ReadsProgram (old new : Option (List ℕ)) (p : ProgramText) : Type 0 where
   pub text : List ℕ
-  pub words : ℕ
-  pub code : List Instr
-  pub trace : List Entry
-  pub end : End
   pub reads : ReadsText old new text
-  pub program : StandsFor text words code
-  pub reached : IsReached words code a
-  pub ends : EndsAs words code a trace end
+  pub accepted : first_fault_of text ≡ None
+  pub stands : p ≡ program_of text
+
+-- the text that was read has this first fault
+pub record ReadsFault (old new : Option (List ℕ)) (n : ℕ) (kind : AsmKind) : Type 0 where
+  pub text : List ℕ
+  pub reads : ReadsText old new text
+  pub refused : first_fault_of text ≡ Some (n, kind)
+
+-- Why no program was read: a read failed, the text is too long, or it has this first fault. Want of memory
+-- has no cause in it.
+abbrev pub IsUnread : Option (List ℕ) → Option (List ℕ) → ℕ → ℕ → Unread → Type 0
+IsUnread old new faults_old faults_new Fault = Rose faults_old faults_new
+IsUnread old new faults_old faults_new TooLong = ConsumesSome old new 65537
+IsUnread old new faults_old faults_new (Refused f) = ReadsFault old new f.line f.kind
+IsUnread old new faults_old faults_new NoMemory = Unit {0}
 
 -- the text that was read is refused with this line: it is too long, or it has this first fault
 abbrev pub RefusesText : Option (List ℕ) → Option (List ℕ) → List ℕ → Type 0
 RefusesText old new line =
     (ConsumesSome old new 65537 × (line ≡ refused_line 0 (codes "TooLong")))
-    ⊎ ((text : List ℕ) × (n : ℕ) × (kind : FaultKind) × ReadsText old new text × IsFault text n kind × (line ≡ refused_line n (kind_name kind)))
+    ⊎ ((n : ℕ) × (kind : AsmKind) × ReadsFault old new n kind × (line ≡ refused_line n (kind_name kind)))
 
 -- the line was written, or a prefix of it where the sink's count of faults rose
 abbrev pub WritesLine : Option (List ℕ) → Option (List ℕ) → ℕ → ℕ → List ℕ → Type 0
@@ -44,12 +59,23 @@ WritesLine old new faults_old faults_new line = Appends old new line ⊎ (Rose f
 
 -- the text is refused with a line, which was written
 abbrev pub RefusesAndWrites : Option (List ℕ) → Option (List ℕ) → Option (List ℕ) → Option (List ℕ) → ℕ → ℕ → Type 0
-RefusesAndWrites left_old left_new old new faults_old faults_new = (text : List ℕ) × RefusesText left_old left_new text × WritesLine old new faults_old faults_new text
+RefusesAndWrites left_old left_new old new faults_old faults_new = (line : List ℕ) × RefusesText left_old left_new line × WritesLine old new faults_old faults_new line
 
--- every processor halted
-abbrev pub AllHalted : List (Option End) → Type 0
-AllHalted ends = All (λ e. e ≡ Some Halted) ends
+-- The whole answer of a plan for a program, and what its run left where it is run.
+abbrev pub Answers : Plan → ProgramText → Option Account → List ℕ → Type 0
+Answers Check p ran bytes = (ran ≡ None) × (bytes ≡ shape_line p)
+Answers Listing p ran bytes = (ran ≡ None) × (bytes ≡ canonical p)
+Answers Sim p (Some a) bytes = Runs p a × IsFlatRun p a × (bytes ≡ report p.shape a)
+Answers Sim p None bytes = ⊥
 
--- the one processor trapped at an address above its memory
-abbrev pub TrapsAddress : List (Option End) → Type 0
-TrapsAddress ends = (place : ℕ) × (w : ℕ) × (ends ≡ Some (Trapped place (Address w)) ∷ [])
+-- the words ask for a plan, the text that was read stands for a program, and this is the answer
+pub record Accepts (words : List (List ℕ)) (old new : Option (List ℕ)) (ran : Option Account) (bytes : List ℕ) : Type 0 where
+  pub plan : Plan
+  pub asked : PlanOf words plan
+  pub program : ProgramText
+  pub read : ReadsProgram old new program
+  pub answers : Answers plan program ran bytes
+
+-- the one processor was stopped: at an instruction that it can't do, or since it had done as many as it may
+abbrev pub IsStopped : List (Option End) → Type 0
+IsStopped ends = ((place : ℕ) × (kind : Trap) × (ends ≡ Some (Trapped place kind) ∷ [])) ⊎ (ends ≡ Some Spent ∷ [])

@@ -3,6 +3,3 @@ pub mod Answer
 pub mod Plans
 pub mod Report
 pub mod Run
-pub mod Spells
-pub mod Text
-pub mod TextFaults

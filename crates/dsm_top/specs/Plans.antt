@@ -2,7 +2,7 @@
 use Rattle.std.specs.Prelude.{◌≡◌, ℕ, ◌+◌, ◌-◌, ◌≤◌, ◌⊎◌, List, [], ◌∷◌, ◌++◌, length, map, take, codes, String, string_bytes}
 use Rattle.std.specs.declared.alloc.Global.{Global}
 use Rattle.dsm_top.specs.declared.plans.Plan.{Plan}
-use Rattle.dsm_top.specs.declared.plans.Plan.TheVariants.{Sim}
+use Rattle.dsm_top.specs.declared.plans.Plan.TheVariants.{Check, List as Listing, Sim}
 
 -- the bytes of each word
 abbrev pub texts : List (String Global) → List (List ℕ)
@@ -10,6 +10,8 @@ texts words = map string_bytes words
 
 -- these words ask for this plan
 abbrev pub PlanOf : List (List ℕ) → Plan → Type 0
+PlanOf words Check = words ≡ codes "check" ∷ []
+PlanOf words Listing = words ≡ codes "list" ∷ []
 PlanOf words Sim = words ≡ codes "sim" ∷ codes "1x1" ∷ []
 
 -- some plan's words begin with these

@@ -1,11 +1,14 @@
 // The top call: from the words of the command line and the bytes of a program to the bytes of the answer.
 #![tactic(auto)]
 
+pub mod answering;
 pub mod planning;
 pub mod plans;
 pub mod ran;
+pub mod reading;
 pub mod refusal;
 pub mod reporting;
+#[cfg(test)]
+mod round_trip;
 pub mod running;
-pub mod text;
 pub mod top;

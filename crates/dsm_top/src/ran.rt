@@ -1,5 +1,5 @@
 ghost use Rattle.std.specs.Prelude.{◌≡◌, ◌↔◌, IsTrue};
-ghost use Rattle.dsm_top.specs.Answer.{AllHalted};
+ghost use Rattle.dsm_top.specs.Run.{AllHalted};
 
 use dsm_entry::trace::Trace;
 use dsm_local::end::End;

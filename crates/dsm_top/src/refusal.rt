@@ -1,7 +1,8 @@
 ghost use Rattle.std.specs.Prelude.{◌≡◌, ◌<◌, ◌≤◌, ◌^◌, ◌++◌, length};
-ghost use Rattle.dsm_top.specs.Report.{refused_word, refused_line};
+ghost use Rattle.dsm_top.specs.Report.{refused_word, refused_line, kind_name as name_of_kind, limit_name as name_of_limit};
 
 use arrayvec::ArrayString;
+use dsm_grammar::fault::{AsmKind, Bound};
 use itoa::Buffer;
 
 /// Room for the one line of an answer that refuses.
@@ -32,4 +33,43 @@ pub fn refuse_line(n: u64, kind: &str) -> Line
     line.push_str(kind);
     line.push_str("\n");
     line
+}
+
+/// The name of what is wrong with a line.
+pub fn kind_name(kind: AsmKind) -> &'static str
+    ensures name { result.now ≡ name_of_kind kind }
+    ensures short { length result.now ≤ 20 }
+{
+    match kind {
+        AsmKind::NotAscii => "NotAscii",
+        AsmKind::LongLine => "LongLine",
+        AsmKind::DoubleLabel => "DoubleLabel",
+        AsmKind::UnknownWord => "UnknownWord",
+        AsmKind::DirectiveLate => "DirectiveLate",
+        AsmKind::BadOperand => "BadOperand",
+        AsmKind::BadRegister => "BadRegister",
+        AsmKind::BadNumber => "BadNumber",
+        AsmKind::NoLabel => "NoLabel",
+        AsmKind::Limit(bound) => limit_name(bound),
+        AsmKind::NoCode => "NoCode",
+    }
+}
+
+/// The limit that is broken, in two words.
+fn limit_name(bound: Bound) -> &'static str
+    ensures name { result.now ≡ name_of_limit bound }
+    ensures short { length result.now ≤ 20 }
+{
+    match bound {
+        Bound::Pages => "Limit Pages",
+        Bound::Words => "Limit Words",
+        Bound::Locks => "Limit Locks",
+        Bound::Barriers => "Limit Barriers",
+        Bound::Flags => "Limit Flags",
+        Bound::Address => "Limit Address",
+        Bound::Lock => "Limit Lock",
+        Bound::Barrier => "Limit Barrier",
+        Bound::Flag => "Limit Flag",
+        Bound::Code => "Limit Code",
+    }
 }

@@ -1,96 +1,37 @@
-ghost use Rattle.std.specs.Prelude.{◌≡◌, ℕ, ◌++◌, List, [], ◌∷◌, map, flat_map, codes, decimal, IfOk, OnOk};
-ghost use Rattle.dsm_top.specs.Report.{line, end_words, end_lines, out_line, out_lines, report as report_of};
+ghost use Rattle.std.specs.Prelude.{◌≡◌, ◌*◌, ◌++◌, [], ◌∷◌, length, map, flat_map, codes, decimal, IfOk, OnOk};
+ghost use Rattle.dsm_isa.specs.ProgramText.{sizes_of};
+ghost use Rattle.dsm_list.specs.Lines.{line};
+ghost use Rattle.dsm_top.specs.Report.{trap_words, end_words, end_lines, out_line, out_lines, page_lines, report as report_of};
 
 use crate::ran::Ran;
 use dsm_entry::entry::{Entry, NoMemory};
 use dsm_entry::trace::Trace;
+use dsm_isa::shape::Shape;
+use dsm_list::lines::Lines;
 use dsm_local::end::{End, Trap};
-use itoa::Buffer;
 use std::alloc::Global;
-use std::marker::Model;
 
 #[cfg(test)]
 mod tests;
 
-/// A text that grows by words and lines.
-#[derive(Drop)]
-struct Lines {
-    bytes: Vec<u8>,
-}
-
-impl Model for Lines {
-    ghost Value = { List ℕ };
-
-    ghost view = { λ t. t.bytes.items };
-}
-
-impl Lines {
-    /// The empty text. It takes no memory.
-    fn new(alloc: Global) -> Lines
-        ensures { result ≡ [] }
-    {
-        Lines {
-            bytes: Vec::new(alloc),
-        }
-    }
-
-    /// Begins a line with a word.
-    fn first(&mut self, word: &str) -> Result<(), NoMemory>
-        ensures { OnOk result (self.new ≡ self.old ++ word.now) }
-    {
-        self.bytes.extend_from_slice(word.as_bytes())?;
-        Ok(())
-    }
-
-    /// Appends a further word to the line.
-    fn word(&mut self, word: &str) -> Result<(), NoMemory>
-        ensures { OnOk result (self.new ≡ self.old ++ 32 ∷ word.now) }
-    {
-        self.bytes.push(b' ')?;
-        self.bytes.extend_from_slice(word.as_bytes())?;
-        Ok(())
-    }
-
-    /// Appends a number to the line, as a word.
-    fn number(&mut self, n: u64) -> Result<(), NoMemory>
-        ensures { OnOk result (self.new ≡ self.old ++ 32 ∷ decimal n) }
-    {
-        self.word(Buffer::new().format(n))
-    }
-
-    /// Ends the line.
-    fn end(&mut self) -> Result<(), NoMemory>
-        ensures { OnOk result (self.new ≡ self.old ++ 10 ∷ []) }
-    {
-        self.bytes.push(b'\n')?;
-        Ok(())
-    }
-
-    /// The bytes of the text.
-    fn into_bytes(self) -> Vec<u8>
-        ensures { result.items ≡ self }
-    {
-        self.bytes
-    }
-}
-
 /// The report of a run: the cluster, how each processor ended, what each printed, and the words of
-/// the page.
+/// the pages.
 #[tactic(auto, unfolding(crate::specs::Report::report))]
-pub fn report(alloc: Global, ran: &Ran) -> Result<Vec<u8>, NoMemory>
-    ensures { IfOk result (λ text. text.items ≡ report_of ran.now) }
+pub fn report(alloc: Global, shape: Shape, ran: &Ran) -> Result<Vec<u8>, NoMemory>
+    requires { length ran.now.pages ≡ shape.pages * shape.words }
+    ensures { IfOk result (λ text. text.items ≡ report_of (sizes_of shape) ran.now) }
 {
     let mut lines = Lines::new(alloc);
     write_title(&mut lines)?;
     write_ends(&mut lines, &ran.ends)?;
     write_outs(&mut lines, &ran.traces)?;
-    write_page(&mut lines, &ran.pages)?;
+    write_pages(&mut lines, shape, &ran.pages)?;
     Ok(lines.into_bytes())
 }
 
 /// Names the cluster.
 fn write_title(lines: &mut Lines) -> Result<(), NoMemory>
-    ensures { OnOk result (lines.new ≡ lines.old ++ line (codes "cashmere") (codes "1x1" ∷ [])) }
+    ensures { OnOk result (lines.new ≡ lines.old ++ line (codes "cashmere" ∷ codes "1x1" ∷ [])) }
 {
     lines.first("cashmere")?;
     lines.word("1x1")?;
@@ -109,29 +50,49 @@ fn write_ends(lines: &mut Lines, ends: &[Option<End>]) -> Result<(), NoMemory>
 
 /// How processor `p` ended.
 fn write_end(lines: &mut Lines, p: u64, end: Option<End>) -> Result<(), NoMemory>
-    ensures { OnOk result (lines.new ≡ lines.old ++ line (codes "end") (decimal p ∷ end_words end)) }
+    ensures { OnOk result (lines.new ≡ lines.old ++ line (codes "end" ∷ decimal p ∷ end_words end)) }
 {
     lines.first("end")?;
     lines.number(p)?;
     match end {
-        Some(End::Halted) => lines.word("halted")?,
-        Some(End::Trapped { at, kind }) => write_trap(lines, at, kind)?,
+        Some(end) => write_how(lines, end)?,
         None => lines.word("cut")?,
     }
     lines.end()
 }
 
-/// The words for a trap before the instruction at place `at`.
-fn write_trap(lines: &mut Lines, at: u32, kind: Trap) -> Result<(), NoMemory>
-    ensures { OnOk result (lines.new ≡ lines.old ++ flat_map (λ w. 32 ∷ w) (end_words (Some (End.Trapped at kind)))) }
+/// The words for an end.
+fn write_how(lines: &mut Lines, end: End) -> Result<(), NoMemory>
+    ensures { OnOk result (lines.new ≡ lines.old ++ flat_map (λ w. 32 ∷ w) (end_words (Some end))) }
 {
-    lines.word("trapped")?;
-    lines.number(u64::from(at))?;
+    match end {
+        End::Halted => lines.word("halted"),
+        End::Trapped { at, kind } => {
+            lines.word("trapped")?;
+            lines.number(u64::from(at))?;
+            write_trap(lines, kind)
+        }
+        End::Spent => lines.word("spent"),
+        End::Looked => lines.word("looked"),
+        End::Stopped { by } => {
+            lines.word("stopped")?;
+            lines.word("by")?;
+            lines.number(u64::from(by))
+        }
+        End::NoMemory => lines.word("nomemory"),
+    }
+}
+
+/// The words for what a processor could not do.
+fn write_trap(lines: &mut Lines, kind: Trap) -> Result<(), NoMemory>
+    ensures { OnOk result (lines.new ≡ lines.old ++ flat_map (λ w. 32 ∷ w) (trap_words kind)) }
+{
     match kind {
         Trap::Address { w } => {
             lines.word("address")?;
             lines.number(w)
         }
+        Trap::DivideByZero => lines.word("zero"),
         Trap::Later => lines.word("later"),
     }
 }
@@ -171,12 +132,24 @@ fn write_out(lines: &mut Lines, p: u64, entry: Entry) -> Result<(), NoMemory>
     lines.end()
 }
 
-/// The one page and its words.
-fn write_page(lines: &mut Lines, words: &[u64]) -> Result<(), NoMemory>
-    ensures { OnOk result (lines.new ≡ lines.old ++ line (codes "page") (codes "0" ∷ map decimal words.now)) }
+/// A line for each page.
+fn write_pages(lines: &mut Lines, shape: Shape, words: &[u64]) -> Result<(), NoMemory>
+    requires { length words.now ≡ shape.pages * shape.words }
+    ensures { OnOk result (lines.new ≡ lines.old ++ page_lines (sizes_of shape) words.now) }
+{
+    let size = shape.words as usize;
+    for g in 0..shape.pages as usize {
+        write_page(lines, g as u64, &words[g * size..(g + 1) * size])?;
+    }
+    Ok(())
+}
+
+/// The line of page `g` and its words.
+fn write_page(lines: &mut Lines, g: u64, words: &[u64]) -> Result<(), NoMemory>
+    ensures { OnOk result (lines.new ≡ lines.old ++ line (codes "page" ∷ decimal g ∷ map decimal words.now)) }
 {
     lines.first("page")?;
-    lines.word("0")?;
+    lines.number(g)?;
     for word in words {
         lines.number(*word)?;
     }

@@ -1,37 +1,29 @@
-ghost use Rattle.std.specs.Prelude.{◌≡◌, ℕ, ◌<◌, IfOk, List, length, slice_index};
-ghost use Rattle.dsm_flat.specs.Flat.{Flat, Sourced, Final};
-ghost use Rattle.dsm_flat.specs.Sync.{SyncLegal};
-ghost use Rattle.dsm_entry.specs.declared.entry.Entry.{Entry as ran_entry};
-ghost use Rattle.dsm_local.specs.declared.end.End.{End as ran_end};
-ghost use Rattle.dsm_top.specs.Run.{IsReached, EndsAs};
+ghost use Rattle.std.specs.Prelude.{◌≡◌, ◌≤◌, ◌*◌, IfOk, length};
+ghost use Rattle.dsm_top.specs.Run.{Runs, IsFlatRun, size_of, first_words as first_words_of};
 
 use crate::ran::Ran;
-use crate::text::program::Program;
 use dsm_entry::entry::NoMemory;
-use dsm_machine::law::locality_law;
+use dsm_isa::program::Program;
+use dsm_isa::shape::Shape;
 use dsm_machine::machine::Machine;
 use dsm_words::op::apply;
 use std::alloc::Global;
 
 /// Runs the program on one processor, from the start to its end.
+#[tactic(auto, unfolding(dsm_machine::specs::Processor::IsLocal))]
 pub fn run(alloc: Global, program: &Program) -> Result<Ran, NoMemory>
-    ensures reached { IfOk result (λ a. IsReached program.now.words program.now.code a) }
-    ensures ends { IfOk result (λ a. (t : List ran_entry) × (e : ran_end) × EndsAs program.now.words program.now.code a t e) }
-    // The trace and the words at the end are those of a flat memory.
-    ensures synchronised { IfOk result (λ a. SyncLegal a.traces 1) }
-    ensures sourced { IfOk result (λ a. (w : ℕ) → Sourced a.traces 0 w) }
-    ensures flat { IfOk result (λ a. (w : ℕ) → Flat a.traces 0 w) }
-    ensures last { IfOk result (λ a. (w : ℕ) → w < program.now.words → Final a.traces 0 w (slice_index a.pages w)) }
-    ensures room { IfOk result (λ a. length a.pages ≡ program.now.words) }
+    ensures runs { IfOk result (Runs program.now) }
+    ensures flat { IfOk result (IsFlatRun program.now) }
+    ensures room { IfOk result (λ a. length a.pages ≡ size_of program.now) }
 {
-    let mut words = vec![in alloc; 0u64; program.words as usize + 1]?;
-    let mut machine = Machine::new(alloc, 0, program.words);
-    while let Some(op) = machine.next(&program.code) {
+    let mut words = first_words(alloc, program)?;
+    let mut machine = Machine::new(alloc, 0, size(program.shape()));
+    let instructions = program.code();
+    while let Some(op) = machine.next(instructions) {
         machine.ready()?;
         let got = apply(words.as_mut_slice(), op);
-        machine.after(&program.code, got);
+        machine.after(instructions, got);
     }
-    locality_law();
     words.remove(0);
     let ends = vec![in alloc; machine.end()]?;
     let traces = vec![in alloc; machine.into_trace()]?;
@@ -40,4 +32,23 @@ pub fn run(alloc: Global, program: &Program) -> Result<Ran, NoMemory>
         ends,
         pages: words,
     })
+}
+
+/// How many words the memory has.
+fn size(shape: Shape) -> u32
+    ensures size { result ≡ shape.pages * shape.words }
+    ensures most { result ≤ 65536 }
+{
+    shape.pages * shape.words
+}
+
+/// The words at the start, with the stop word before them.
+fn first_words(alloc: Global, program: &Program) -> Result<Vec<u64>, NoMemory>
+    ensures { IfOk result (λ words. words.items ≡ first_words_of program.now) }
+{
+    let mut words = vec![in alloc; 0u64; size(program.shape()) as usize + 1]?;
+    for word in program.init() {
+        words[word.0 as usize + 1] = word.1;
+    }
+    Ok(words)
 }

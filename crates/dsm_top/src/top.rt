@@ -1,30 +1,25 @@
-ghost use Rattle.std.specs.Prelude.{◌≡◌, ℕ, ◌<◌, ◌≤◌, ◌⊎◌, ◌↔◌, IsSome, IfSome, None, length, slice_index};
-ghost use Rattle.dsm_flat.specs.Flat.{Flat, Sourced, Final};
-ghost use Rattle.dsm_flat.specs.Sync.{SyncLegal};
+ghost use Rattle.std.specs.Prelude.{◌≡◌, ℕ, ◌≤◌, ◌⊎◌, ◌↔◌, List, IsSome, IsSomeAnd, IfSome, None};
 ghost use Rattle.std.specs.Io.KnownBytes.{Appends};
+ghost use Rattle.dsm_isa.specs.ProgramText.{ProgramText};
 ghost use Rattle.dsm_io.specs.Faults.{Rose};
 ghost use Rattle.dsm_io.specs.Whole.{AppendsPrefix};
 ghost use Rattle.dsm_top.specs.declared.plans.Plan.{Plan as plan_of_words};
 ghost use Rattle.dsm_top.specs.Plans.{texts, PlanOf, FirstFault};
-ghost use Rattle.dsm_top.specs.Report.{report as report_of, refused_word, refused_line, kind_name};
-ghost use Rattle.dsm_top.specs.Answer.{Runs, RefusesAndWrites, WritesLine, AllHalted, TrapsAddress};
+ghost use Rattle.dsm_top.specs.Report.{refused_word, refused_line, kind_name as name_of_kind};
+ghost use Rattle.dsm_top.specs.Run.{Runs, IsFlatRun, AllHalted};
+ghost use Rattle.dsm_top.specs.Answer.{ReadsProgram, RefusesAndWrites, WritesLine, Accepts, IsStopped};
 
+use crate::answering::{Answer, answer_to};
 use crate::planning::plan;
-use crate::plans::Plan;
 use crate::ran::Done;
-use crate::refusal::{Line, refuse_line, refuse_word};
-use crate::reporting::report;
-use crate::running::run;
-use crate::text::fault::{TextErr, TextFault};
-use crate::text::program::read_program;
-use dsm_io::{ReadErr, Sink, Source, read_all, write_all};
+use crate::reading::{Unread, read_program};
+use crate::refusal::{Line, kind_name, refuse_line, refuse_word};
+use dsm_asm::fault::AsmFault;
+use dsm_io::{Sink, Source, write_all};
 use std::alloc::Global;
 
 #[cfg(test)]
 mod tests;
-
-/// The most bytes of a program text.
-pub const MOST_TEXT: usize = 65536;
 
 /// Does what the words of the command line ask for: reads the program from the source, and writes the
 /// answer to the sink. It waits for nobody.
@@ -43,7 +38,7 @@ pub fn still<S: Source, K: Sink>(
         × WritesLine (K.written sink.old) (K.written sink.new) (K.faults sink.old) (K.faults sink.new) (refused_word k) }
     ensures words_unread { result.status ≡ 2 → source.new ≡ source.old }
 
-    // Status 3 where the text is too long or not in the form. The line with its first fault is written.
+    // Status 3 where the text is too long or has a fault. The line with its first fault is written.
     ensures text { result.status ≡ 3 → RefusesAndWrites (S.left source.old) (S.left source.new)
         (K.written sink.old) (K.written sink.new) (K.faults sink.old) (K.faults sink.new) }
 
@@ -51,54 +46,68 @@ pub fn still<S: Source, K: Sink>(
     ensures read_fault { result.status ≡ 4 → Rose (S.faults source.old) (S.faults source.new) }
     ensures unwritten { (result.status ≡ 4) ⊎ (result.status ≡ 6) → sink.new ≡ sink.old }
 
-    // In all other cases the text was read whole, stands for a program, and the program was run to its end.
-    ensures ran { IsSome result.ran ↔ ((result.status ≡ 0) ⊎ (result.status ≡ 1) ⊎ (result.status ≡ 5)) }
-    ensures run { IfSome result.ran (Runs (S.left source.old) (S.left source.new)) }
-    ensures halted { result.status ≡ 0 → IfSome result.ran (λ a. AllHalted a.ends) }
-    ensures trapped { result.status ≡ 1 → IfSome result.ran (λ a. TrapsAddress a.ends) }
-    ensures whole { (result.status ≡ 0) ⊎ (result.status ≡ 1) → IfSome result.ran (λ a. Appends (K.written sink.old) (K.written sink.new) (report_of a)) }
-
-    // The run is that of a flat memory. Its synchronisation is legal, each load of a word returned the
-    // last store ordered before it, no load returned a value that was not there, and where the processor
-    // halted the page holds the last stores.
-    ensures synchronised { IfSome result.ran (λ a. SyncLegal a.traces 1) }
-    ensures flat { IfSome result.ran (λ a. (w : ℕ) → Flat a.traces 0 w) }
-    ensures sourced { IfSome result.ran (λ a. (w : ℕ) → Sourced a.traces 0 w) }
-    ensures last { IfSome result.ran (λ a. AllHalted a.ends → (w : ℕ) → w < length a.pages → Final a.traces 0 w (slice_index a.pages w)) }
-
-    // Status 5 only where a write failed. A prefix of the report is written then.
+    // In all other cases the text was read whole, has no fault, and the answer of the plan to its program
+    // was made. It was written, but for status 5, which comes only where a write failed: then a prefix was.
+    ensures whole { (result.status ≡ 0) ⊎ (result.status ≡ 1) → (bytes : List ℕ)
+        × Accepts (texts words.now) (S.left source.old) (S.left source.new) result.ran bytes
+        × Appends (K.written sink.old) (K.written sink.new) bytes }
+    ensures prefix { result.status ≡ 5 → (bytes : List ℕ)
+        × Accepts (texts words.now) (S.left source.old) (S.left source.new) result.ran bytes
+        × AppendsPrefix (K.written sink.old) (K.written sink.new) bytes }
     ensures write_fault { result.status ≡ 5 → Rose (K.faults sink.old) (K.faults sink.new) }
-    ensures prefix { result.status ≡ 5 → IfSome result.ran (λ a. AppendsPrefix (K.written sink.old) (K.written sink.new) (report_of a)) }
+
+    // Where the plan is to run the program, it was run to its end, and the run is that of a flat memory.
+    ensures ran { IsSome result.ran ↔ (PlanOf (texts words.now) plan_of_words.Sim × ((result.status ≡ 0) ⊎ (result.status ≡ 1) ⊎ (result.status ≡ 5))) }
+    ensures run { IfSome result.ran (λ a. (p : ProgramText) × ReadsProgram (S.left source.old) (S.left source.new) p × Runs p a × IsFlatRun p a) }
+    ensures halted { result.status ≡ 0 → IfSome result.ran (λ a. AllHalted a.ends) }
+    ensures stopped { result.status ≡ 1 → IsSomeAnd result.ran (λ a. IsStopped a.ends) }
 {
-    let Plan::Sim = match plan(words) {
+    let plan = match plan(words) {
         Ok(plan) => plan,
         Err(k) => return refuse(sink, &refuse_word(k), 2),
     };
-    let text = match read_all(alloc, source, MOST_TEXT) {
-        Ok(text) => text,
-        Err(ReadErr::Fault) => return without_run(4),
-        Err(ReadErr::TooLong) => return refuse(sink, &refuse_line(0, "TooLong"), 3),
-        Err(ReadErr::NoMemory) => return without_run(6),
-    };
-    let program = match read_program(alloc, text.as_slice()) {
+    let program = match read_program(alloc, source) {
         Ok(program) => program,
-        Err(TextErr::Refused(fault)) => return refuse_fault(sink, fault),
-        Err(TextErr::NoMemory) => return without_run(6),
+        Err(Unread::Fault) => return without_run(4),
+        Err(Unread::TooLong) => return refuse(sink, &refuse_line(0, "TooLong"), 3),
+        Err(Unread::Refused(fault)) => return refuse_fault(sink, fault),
+        Err(Unread::NoMemory) => return without_run(6),
     };
-    let Ok(ran) = run(alloc, &program) else {
+    let Ok(answer) = answer_to(alloc, plan, &program) else {
         return without_run(6);
     };
-    let Ok(answer) = report(alloc, &ran) else {
-        return without_run(6);
-    };
-    let status = match write_all(sink, answer.as_slice()) {
+    finish(sink, answer)
+}
+
+/// Writes the answer.
+fn finish<K: Sink>(sink: &mut K, answer: Answer) -> Done
+    ensures status { (result.status ≡ 0) ⊎ (result.status ≡ 1) ⊎ (result.status ≡ 5) }
+    ensures ran { result.ran ≡ answer.ran }
+    ensures halted { result.status ≡ 0 → IfSome answer.ran (λ a. AllHalted a.ends) }
+    ensures stopped { result.status ≡ 1 → IsSomeAnd answer.ran (λ a. AllHalted a.ends → ⊥) }
+    ensures whole { (result.status ≡ 0) ⊎ (result.status ≡ 1) → Appends (K.written sink.old) (K.written sink.new) answer.text.items }
+    ensures prefix { result.status ≡ 5 → AppendsPrefix (K.written sink.old) (K.written sink.new) answer.text.items }
+    ensures write_fault { result.status ≡ 5 → Rose (K.faults sink.old) (K.faults sink.new) }
+{
+    let status = match write_all(sink, answer.text.as_slice()) {
         Err(_) => 5,
-        Ok(()) if ran.is_halted() => 0,
-        Ok(()) => 1,
+        Ok(()) => ending(&answer),
     };
     Done {
         status,
-        ran: Some(ran),
+        ran: answer.ran,
+    }
+}
+
+/// The status where all was written: 1 where a run was stopped, and 0 elsewhere.
+fn ending(answer: &Answer) -> u8
+    ensures status { (result ≡ 0) ⊎ (result ≡ 1) }
+    ensures halted { result ≡ 0 → IfSome answer.now.ran (λ a. AllHalted a.ends) }
+    ensures stopped { result ≡ 1 → IsSomeAnd answer.now.ran (λ a. AllHalted a.ends → ⊥) }
+{
+    match &answer.ran {
+        Some(ran) if !ran.is_halted() => 1,
+        _ => 0,
     }
 }
 
@@ -113,12 +122,16 @@ fn refuse<K: Sink>(sink: &mut K, line: &Line, status: u8) -> Done
 }
 
 /// Writes the line that names the fault of a text.
-fn refuse_fault<K: Sink>(sink: &mut K, fault: TextFault) -> Done
+fn refuse_fault<K: Sink>(sink: &mut K, fault: AsmFault) -> Done
     ensures status { result.status ≡ 3 }
     ensures ran { result.ran ≡ None }
-    ensures line { WritesLine (K.written sink.old) (K.written sink.new) (K.faults sink.old) (K.faults sink.new) (refused_line fault.line (kind_name fault.kind)) }
+    ensures line { WritesLine (K.written sink.old) (K.written sink.new) (K.faults sink.old) (K.faults sink.new) (refused_line fault.line (name_of_kind fault.kind)) }
 {
-    refuse(sink, &refuse_line(fault.line, fault.kind.name()), 3)
+    refuse(
+        sink,
+        &refuse_line(u64::from(fault.line), kind_name(fault.kind)),
+        3,
+    )
 }
 
 fn without_run(status: u8) -> Done

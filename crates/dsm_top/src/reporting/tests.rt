@@ -1,3 +1,5 @@
+ghost use Rattle.std.specs.Prelude.{◌≡◌, length};
+
 use super::*;
 use crate::refusal::{refuse_line, refuse_word};
 use std::test::Fail;
@@ -12,13 +14,23 @@ fn trace_of(alloc: Global, entries: &[Entry]) -> Result<Trace, NoMemory> {
     Ok(trace)
 }
 
-// What the run of one processor leaves.
-fn ran_of(alloc: Global, entries: &[Entry], end: End, words: &[u64]) -> Result<Ran, NoMemory> {
-    Ok(Ran {
+// The report of a run of one processor, whose memory is one page of `width` words.
+fn reported(
+    alloc: Global,
+    entries: &[Entry],
+    end: End,
+    width: u32,
+    words: &[u64],
+) -> Result<Vec<u8>, Fail>
+    requires { length words.now ≡ width }
+{
+    let shape = Shape::new(1, width, 0, 0, 0).ok_or("shape")?;
+    let ran = Ran {
         traces: vec![in alloc; trace_of(alloc, entries)?]?,
         ends: vec![in alloc; Some(end)]?,
         pages: Vec::from_slice(alloc, words)?,
-    })
+    };
+    Ok(report(alloc, shape, &ran)?)
 }
 
 // Only what was printed has lines, in order, and each word of the page is there.
@@ -29,22 +41,30 @@ fn reports_what_was_printed(rt: HostRuntime) -> Result<(), Fail> {
         Entry::Out { v: 7 },
         Entry::Out { v: u64::MAX },
     ];
-    let ran = ran_of(rt.alloc(), &entries, End::Halted, &[0, 0, 7, 0])?;
+    let got = reported(rt.alloc(), &entries, End::Halted, 4, &[0, 0, 7, 0])?;
     let want = "cashmere 1x1\nend 0 halted\nout 0 7\nout 0 18446744073709551615\npage 0 0 0 7 0\n";
-    assert_eq!(rt; report(rt.alloc(), &ran)?.as_slice(), want.as_bytes());
+    assert_eq!(rt; got.as_slice(), want.as_bytes());
     Ok(())
 }
 
-// A trap is reported with the place of its instruction, and then its address.
+// The words for each other end. A trap is reported with the place of its instruction.
 #[test]
-fn reports_a_trap(rt: HostRuntime) -> Result<(), Fail> {
-    let end = End::Trapped {
-        at: 3,
-        kind: Trap::Address { w: 4 },
-    };
-    let ran = ran_of(rt.alloc(), &[], end, &[0])?;
-    let want = "cashmere 1x1\nend 0 trapped 3 address 4\npage 0 0\n";
-    assert_eq!(rt; report(rt.alloc(), &ran)?.as_slice(), want.as_bytes());
+fn reports_each_end(rt: HostRuntime) -> Result<(), Fail> {
+    let trapped = |at, kind| End::Trapped { at, kind };
+    let table = [
+        (trapped(3, Trap::Address { w: 4 }), "trapped 3 address 4"),
+        (trapped(0, Trap::DivideByZero), "trapped 0 zero"),
+        (trapped(4095, Trap::Later), "trapped 4095 later"),
+        (End::Spent, "spent"),
+        (End::Looked, "looked"),
+        (End::Stopped { by: 31 }, "stopped by 31"),
+        (End::NoMemory, "nomemory"),
+    ];
+    for (end, words) in table {
+        let got = reported(rt.alloc(), &[], end, 1, &[0])?;
+        let want = format!(in rt.alloc(); "cashmere 1x1\nend 0 {words}\npage 0 0\n")?;
+        assert_eq!(rt; got.as_slice(), want.as_bytes());
+    }
     Ok(())
 }
 

@@ -1,0 +1,43 @@
+use Rattle.dsm_asm.specs.Table.{places}
+use Rattle.dsm_asm.proofs.Refusing.{IfErr-map, OnOk-all}
+use Rattle.dsm_asm.proofs.Stating.{Directs, DirectsNothing, taken-directive, taken-instruction, refused-directive, refused-instruction, refused-unknown}
+use Rattle.dsm_asm.proofs.assembly.Assembly.state.Goals as goal
+
+pub returns-in-None-clause-fault : goal.returns-in-None-clause-fault
+returns-in-None-clause-fault c = λ words says.
+    let nothing : DirectsNothing c.args.statement.name.now = record { row = c.in_default.ensures.named; init = c.in_default.ensures.no_init } in
+    refused-unknown c.args.self.now (places c.args.labels.now) c.args.labelled c.args.statement words says nothing (λ there. c.in-None.ensures there)
+
+pub returns-in-Some-clause-fault : goal.returns-in-Some-clause-fault
+returns-in-Some-clause-fault c =
+    let directs : Directs c.args.statement.name.now c.in-Some.directive = record { row = c.in-Some.ensures.named; size = c.in-Some.ensures.size; init = c.in-Some.ensures.init } in
+    IfErr-map c.direct.result _ _ (λ e is words says. refused-directive c.args.self.now (places c.args.labels.now) c.args.labelled c.args.statement c.in-Some.directive words e says directs (is (places c.args.labels.now))) c.direct.ensures.fault
+
+pub returns-in-Some-form_of-clause-fault : goal.returns-in-Some-form_of-clause-fault
+returns-in-Some-form_of-clause-fault c =
+    let nothing : DirectsNothing c.args.statement.name.now = record { row = c.in_default.ensures.named; init = c.in_default.ensures.no_init } in
+    IfErr-map c.instruct.result _ _ (λ e is words says. refused-instruction c.args.self.now (places c.args.labels.now) c.args.labelled c.args.statement c.in-Some-form_of.form words e says nothing c.in-Some-form_of.ensures is) c.instruct.ensures.fault
+
+pub returns-in-Some-clause-sound : goal.returns-in-Some-clause-sound
+returns-in-Some-clause-sound c =
+    let directs : Directs c.args.statement.name.now c.in-Some.directive = record { row = c.in-Some.ensures.named; size = c.in-Some.ensures.size; init = c.in-Some.ensures.init } in
+    let e = c.direct.ensures in
+    OnOk-all c.direct.result _ _ _ _ _ _ (λ sound settings init begun code words says. (taken-directive c.args.self.now c.direct.new.self (places c.args.labels.now) c.args.labelled c.args.statement c.in-Some.directive words says directs (sound (places c.args.labels.now)) settings init begun code).0) e.sound e.settings e.initial e.begun e.code
+
+pub returns-in-Some-clause-behind : goal.returns-in-Some-clause-behind
+returns-in-Some-clause-behind c =
+    let directs : Directs c.args.statement.name.now c.in-Some.directive = record { row = c.in-Some.ensures.named; size = c.in-Some.ensures.size; init = c.in-Some.ensures.init } in
+    let e = c.direct.ensures in
+    OnOk-all c.direct.result _ _ _ _ _ _ (λ sound settings init begun code words says. (taken-directive c.args.self.now c.direct.new.self (places c.args.labels.now) c.args.labelled c.args.statement c.in-Some.directive words says directs (sound (places c.args.labels.now)) settings init begun code).1) e.sound e.settings e.initial e.begun e.code
+
+pub returns-in-Some-form_of-clause-sound : goal.returns-in-Some-form_of-clause-sound
+returns-in-Some-form_of-clause-sound c =
+    let nothing : DirectsNothing c.args.statement.name.now = record { row = c.in_default.ensures.named; init = c.in_default.ensures.no_init } in
+    let e = c.instruct.ensures in
+    OnOk-all c.instruct.result _ _ _ _ _ _ (λ sound settings init begun code words says. (taken-instruction c.args.self.now c.instruct.new.self (places c.args.labels.now) c.args.labelled c.args.statement c.in-Some-form_of.form words says nothing c.in-Some-form_of.ensures sound settings init begun code).0) e.sound e.settings e.initial e.begun e.code
+
+pub returns-in-Some-form_of-clause-behind : goal.returns-in-Some-form_of-clause-behind
+returns-in-Some-form_of-clause-behind c =
+    let nothing : DirectsNothing c.args.statement.name.now = record { row = c.in_default.ensures.named; init = c.in_default.ensures.no_init } in
+    let e = c.instruct.ensures in
+    OnOk-all c.instruct.result _ _ _ _ _ _ (λ sound settings init begun code words says. (taken-instruction c.args.self.now c.instruct.new.self (places c.args.labels.now) c.args.labelled c.args.statement c.in-Some-form_of.form words says nothing c.in-Some-form_of.ensures sound settings init begun code).1) e.sound e.settings e.initial e.begun e.code

@@ -1,0 +1,10 @@
+pub mod CodeFaults
+pub mod CodeLines
+pub mod Directives
+pub mod Fine
+pub mod Front
+pub mod Operands
+pub mod Reading
+pub mod Rows
+pub mod Words
+pub mod Whole

@@ -1,0 +1,4 @@
+pub mod Canonical
+pub mod Lines
+pub mod Programs
+pub mod Spelling

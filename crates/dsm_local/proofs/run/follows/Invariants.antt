@@ -1,0 +1,10 @@
+use Rattle.dsm_local.specs.Following.{steps_left}
+use Rattle.dsm_local.proofs.Deciding.{IsAt}
+use Rattle.dsm_local.proofs.run.follows.Given as goal
+
+-- The entries that were taken are those that a reader takes up to this stand, and the rest is what it goes on with.
+abbrev pub invariant-loop-step : goal.invariant-loop-step
+invariant-loop-step l = IsAt l.code l.setting l.end l.trace.list l.stand l.taken
+
+abbrev pub decreases-loop-step : goal.decreases-loop-step
+decreases-loop-step l = steps_left l.setting.turns l.stand

@@ -1,0 +1,12 @@
+use crate::reader::Reader;
+
+/// Where a reader stands.
+#[derive(Clone, Copy, Debug, PartialEq, Eq)]
+pub enum Stand {
+    /// Before an instruction.
+    Before(Reader),
+    /// At the closing barrier, which it has not passed.
+    Arrived,
+    /// Behind the closing barrier.
+    Passed,
+}

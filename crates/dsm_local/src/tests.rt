@@ -1,0 +1,246 @@
+use crate::action::Action;
+use crate::end::{End, Trap};
+use crate::reader::Reader;
+use crate::run::is_run;
+use crate::setting::Setting;
+use dsm_entry::entry::{Entry, Obj};
+use dsm_entry::trace::Trace;
+use dsm_isa::code::Code;
+use dsm_isa::instr::Instr;
+use dsm_isa::program::Program;
+use dsm_isa::reg::Reg;
+use dsm_isa::shape::Shape;
+use std::alloc::Global;
+use std::test::Fail;
+
+fn reg(k: u32) -> Result<Reg, Fail> {
+    Ok(Reg::new(k).ok_or("no register")?)
+}
+
+/// What processor 2 of 3 does with an instruction, where r1 is x and r2 is y.
+fn action(alloc: Global, instr: Instr, x: u64, y: u64) -> Result<Action, Fail> {
+    let mut reader = Reader::new();
+    reader.registers[1] = x;
+    reader.registers[2] = y;
+    let code = Code::new([instr].to_vec(alloc)?)?;
+    let setting = Setting {
+        size: 4,
+        p: 2,
+        procs: 3,
+        turns: 1,
+    };
+    Ok(reader.next(&code, setting))
+}
+
+// Arithmetic at its edges: what r3 gets from r1 and r2.
+#[test]
+fn computes(rt: HostRuntime) -> Result<(), Fail> {
+    let (a, b, d) = (reg(1)?, reg(2)?, reg(3)?);
+    let most = u64::MAX;
+    let high = 9223372036854775808;
+    let table = [
+        (Instr::Add { d, a, b }, most, 1, 0),
+        (Instr::Sub { d, a, b }, 0, 1, most),
+        (Instr::Mul { d, a, b }, most, most, 1),
+        (Instr::Div { d, a, b }, most, 2, 9223372036854775807),
+        (Instr::Rem { d, a, b }, most, 10, 5),
+        (Instr::And { d, a, b }, 12, 10, 8),
+        (Instr::Or { d, a, b }, 12, 10, 14),
+        (Instr::Xor { d, a, b }, 12, 10, 6),
+        (Instr::Shl { d, a, b }, 3, 63, high),
+        (Instr::Shl { d, a, b }, 3, 64, 3),
+        (Instr::Shl { d, a, b }, 3, 65, 6),
+        (Instr::Shr { d, a, b }, most, 63, 1),
+        (Instr::Shr { d, a, b }, most, 64, most),
+        (Instr::Shr { d, a, b }, 6, 65, 3),
+        (Instr::Slt { d, a, b }, 1, most, 1),
+        (Instr::Slt { d, a, b }, most, 1, 0),
+        (Instr::Seq { d, a, b }, most, most, 1),
+        (Instr::Addi { d, a, k: most }, 1, 0, 0),
+        (Instr::Subi { d, a, k: most }, 0, 0, 1),
+        (Instr::Muli { d, a, k: 3 }, high, 0, high),
+        (Instr::Li { d, k: most }, 0, 0, most),
+        (Instr::Mov { d, a }, 7, 0, 7),
+        (Instr::Me { d }, 0, 0, 2),
+        (Instr::Procs { d }, 0, 0, 3),
+    ];
+    for (instr, x, y, v) in table {
+        assert_eq!(rt; action(rt.alloc(), instr, x, y)?, Action::Set { d, v });
+    }
+    Ok(())
+}
+
+// Jumps, where r1 is 5 and r2 is 2^64 - 1, and what can't be done.
+#[test]
+fn jumps_and_traps(rt: HostRuntime) -> Result<(), Fail> {
+    let (z, a, b) = (reg(0)?, reg(1)?, reg(2)?);
+    let trap = |kind| Action::Trap { kind };
+    let table = [
+        (Instr::Jmp { to: 1 }, Action::Jump { to: 1 }),
+        (Instr::Beq { a, b, to: 0 }, Action::Jump { to: 1 }),
+        (Instr::Bne { a, b, to: 0 }, Action::Jump { to: 0 }),
+        (Instr::Blt { a, b, to: 0 }, Action::Jump { to: 0 }),
+        (Instr::Bge { a, b, to: 0 }, Action::Jump { to: 1 }),
+        (Instr::Bge { a, b: a, to: 0 }, Action::Jump { to: 0 }),
+        (Instr::Div { d: z, a, b: z }, trap(Trap::DivideByZero)),
+        (Instr::Rem { d: z, a, b: z }, trap(Trap::DivideByZero)),
+        (Instr::Ld { d: z, a, k: 0 }, trap(Trap::Address { w: 5 })),
+        (
+            Instr::Ld { d: z, a: b, k: 4 },
+            Action::LoadWord { d: z, w: 3 },
+        ),
+        (Instr::St { s: a, a: z, k: 4 }, trap(Trap::Address { w: 4 })),
+        (Instr::Bar { b: 0 }, trap(Trap::Later)),
+        (Instr::Halt, Action::Arrive),
+    ];
+    for (instr, does) in table {
+        assert_eq!(rt; action(rt.alloc(), instr, 5, u64::MAX)?, does);
+    }
+    Ok(())
+}
+
+/// Whether these entries are the trace of the only processor of a memory of four words.
+fn answer(
+    alloc: Global,
+    list: &[Instr],
+    turns: u64,
+    entries: &[Entry],
+    end: Option<End>,
+) -> Result<bool, Fail> {
+    let shape = Shape::new(1, 4, 0, 0, 0).ok_or("no shape")?;
+    let code = Code::new(list.to_vec(alloc)?)?;
+    let program = Program::new(shape, Vec::new(alloc), code).ok_or("no program")?;
+    let mut trace = Trace::new(alloc);
+    for entry in entries {
+        trace.reserve_one().map_err(|_| "no memory")?;
+        trace.push(*entry);
+    }
+    Ok(is_run(&program, 0, 1, turns, &trace, end))
+}
+
+// Stores 5 to word 2, loads it and prints what it got.
+#[test]
+fn follows_a_trace(rt: HostRuntime) -> Result<(), Fail> {
+    let alloc = rt.alloc();
+    let (z, a, b) = (reg(0)?, reg(1)?, reg(2)?);
+    let o = Obj::Close;
+    let code = [
+        Instr::Li { d: a, k: 5 },
+        Instr::St { s: a, a: z, k: 2 },
+        Instr::Ld { d: b, a: z, k: 2 },
+        Instr::Out { s: b },
+    ];
+    let right = [
+        Entry::Store { w: 2, v: 5 },
+        Entry::Load { w: 2, v: 9 },
+        Entry::Out { v: 9 },
+        Entry::Signal { o, j: 7 },
+        Entry::Pass { o, c: 8 },
+    ];
+    let wrong = [
+        Entry::Store { w: 2, v: 6 },
+        Entry::Load { w: 1, v: 9 },
+        Entry::Out { v: 5 },
+        Entry::Signal {
+            o: Obj::Lock(0),
+            j: 7,
+        },
+        Entry::Pass {
+            o: Obj::Barrier(0),
+            c: 8,
+        },
+    ];
+    for n in 0..right.len() {
+        // Cut short, it has not ended, or had no memory; before the pass it may also have waited.
+        let waits = n == 4;
+        assert!(rt; answer(alloc, &code, 5, &right[..n], None)?);
+        assert!(rt; answer(alloc, &code, 5, &right[..n], Some(End::NoMemory))?);
+        assert!(rt; !answer(alloc, &code, 5, &right[..n], Some(End::Halted))?);
+        assert_eq!(rt;
+            answer(alloc, &code, 5, &right[..n], Some(End::Looked))?,
+            waits
+        );
+        assert_eq!(rt;
+            answer(alloc, &code, 5, &right[..n], Some(End::Stopped { by: 1 }))?,
+            waits
+        );
+        // One value is changed.
+        let mut changed = right;
+        changed[n] = wrong[n];
+        assert!(rt; !answer(alloc, &code, 5, &changed, Some(End::Halted))?);
+        assert!(rt; !answer(alloc, &code, 5, &changed, None)?);
+    }
+    // Four instructions and a halt.
+    assert!(rt; answer(alloc, &code, 5, &right, Some(End::Halted))?);
+    assert!(rt; answer(alloc, &code, 5, &right, None)?);
+    assert!(rt; !answer(alloc, &code, 4, &right, Some(End::Halted))?);
+    assert!(rt; answer(alloc, &code, 4, &right[..3], Some(End::Spent))?);
+    assert!(rt; !answer(alloc, &code, 5, &right[..3], Some(End::Spent))?);
+    // Another end, and an entry too many.
+    let trapped = End::Trapped {
+        at: 4,
+        kind: Trap::Later,
+    };
+    for end in [End::Spent, End::Looked, End::Stopped { by: 1 }, trapped] {
+        assert!(rt; !answer(alloc, &code, 5, &right, Some(end))?);
+    }
+    let [a, b, c, d, e] = right;
+    let long = [a, b, c, d, e, e];
+    assert!(rt; !answer(alloc, &code, 9, &long, Some(End::Halted))?);
+    Ok(())
+}
+
+// A loop without an entry stops by the number of instructions, and a trap before its instruction.
+#[test]
+fn follows_no_entry(rt: HostRuntime) -> Result<(), Fail> {
+    let alloc = rt.alloc();
+    let z = reg(0)?;
+    let zero = Trap::DivideByZero;
+    let spin = [Instr::Jmp { to: 0 }];
+    let trap = [Instr::Div { d: z, a: z, b: z }];
+    assert!(rt; answer(alloc, &spin, 1000, &[], Some(End::Spent))?);
+    assert!(rt; answer(alloc, &spin, 1000, &[], None)?);
+    assert!(rt; !answer(alloc, &spin, 1000, &[], Some(End::Halted))?);
+    assert!(rt; !answer(alloc, &spin, 1000, &[Entry::Out { v: 0 }], Some(End::Spent))?);
+    assert!(rt;
+        answer(
+            alloc,
+            &trap,
+            1,
+            &[],
+            Some(End::Trapped { at: 0, kind: zero })
+        )?
+    );
+    assert!(rt;
+        !answer(
+            alloc,
+            &trap,
+            1,
+            &[],
+            Some(End::Trapped { at: 1, kind: zero })
+        )?
+    );
+    assert!(rt;
+        !answer(
+            alloc,
+            &trap,
+            1,
+            &[],
+            Some(End::Trapped {
+                at: 0,
+                kind: Trap::Later
+            })
+        )?
+    );
+    assert!(rt; answer(alloc, &trap, 0, &[], Some(End::Spent))?);
+    assert!(rt;
+        !answer(
+            alloc,
+            &trap,
+            0,
+            &[],
+            Some(End::Trapped { at: 0, kind: zero })
+        )?
+    );
+    Ok(())
+}

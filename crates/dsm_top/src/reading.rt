@@ -1,0 +1,42 @@
+ghost use Rattle.std.specs.Prelude.{IfOk, IfErr};
+ghost use Rattle.dsm_top.specs.Answer.{ReadsProgram, IsUnread};
+
+use dsm_asm::assembler::assemble;
+use dsm_asm::fault::{AsmErr, AsmFault};
+use dsm_io::{ReadErr, Source, read_all};
+use dsm_isa::program::Program;
+use std::alloc::Global;
+
+/// The most bytes of a program text.
+pub const MOST_TEXT: usize = 65536;
+
+/// Why no program was read.
+#[derive(Clone, Copy, Debug, PartialEq, Eq)]
+pub enum Unread {
+    /// A read failed.
+    Fault,
+    /// The text has more than 65,536 bytes.
+    TooLong,
+    /// The text is refused for this fault.
+    Refused(AsmFault),
+    /// Memory was wanted and not got.
+    NoMemory,
+}
+
+/// The program whose text the source has to its end.
+pub fn read_program<S: Source>(alloc: Global, source: &mut S) -> Result<Program, Unread>
+    ensures program { IfOk result (ReadsProgram (S.left source.old) (S.left source.new)) }
+    ensures unread { IfErr result (IsUnread (S.left source.old) (S.left source.new) (S.faults source.old) (S.faults source.new)) }
+{
+    let text = match read_all(alloc, source, MOST_TEXT) {
+        Ok(text) => text,
+        Err(ReadErr::Fault) => return Err(Unread::Fault),
+        Err(ReadErr::TooLong) => return Err(Unread::TooLong),
+        Err(ReadErr::NoMemory) => return Err(Unread::NoMemory),
+    };
+    match assemble(alloc, text.as_slice()) {
+        Ok(program) => Ok(program),
+        Err(AsmErr::Refused(fault)) => Err(Unread::Refused(fault)),
+        Err(AsmErr::NoMemory) => Err(Unread::NoMemory),
+    }
+}
