@@ -1,7 +1,7 @@
 -- What is wrong with a statement, and what it leaves.
 use Rattle.std.proofs.Common.{◌≡◌, ℕ, Bool, true, false, List, [], ◌∷◌, ◌++◌, append-nil, length, Option, None, Some, refl, sym, ap, ◌∙◌, subst}
 use Rattle.std.specs.Prelude.{if◌then◌else◌, codes, nat_le, not, ◌||◌, ◌&&◌, ◌==◌}
-use Rattle.std.specs.Option.{is_some, option_or}
+use Rattle.std.specs.Option.{option_or}
 use Rattle.std.specs.Str.{bytes_eq}
 use Rattle.dsm_isa.specs.ProgramText.{Sizes}
 use Rattle.dsm_grammar.specs.declared.fault.AsmKind.{AsmKind}
@@ -14,7 +14,8 @@ use Rattle.dsm_grammar.specs.Faults.{is_of_size, operands_fault}
 use Rattle.dsm_grammar.proofs.Tables.{directive-no_instruction}
 use Rattle.dsm_asm.specs.declared.fault.LineErr.{LineErr}
 use Rattle.dsm_asm.specs.declared.forms.Form.{Form}
-use Rattle.dsm_asm.specs.declared.forms.Form.TheVariants.{Halt as Halts, Li as Lis, Mov as Movs, Jmp as Jmps, Register as OfRegister, Arithmetic as OfArithmetic, Number as OfNumber, Branch as OfBranch, Lock as OfLock, Barrier as OfBarrier, Set as Sets, Wait as Waits, Waitr as Waitrs}
+use Rattle.dsm_asm.specs.declared.forms.Form.TheVariants.{Halt as Halts, Li as Lis, Mov as Movs, Jmp as Jmps, Register as OfRegister, Arithmetic as OfArithmetic, Number as OfNumber, Branch as OfBranch, Object as OfObject}
+use Rattle.dsm_asm.specs.declared.forms.OnObject.TheVariants.{Lock as OnLock, Unlock as OnUnlock, Bar as OnBar, Set as OnSet, Wait as OnWait, Waitr as OnWaitr}
 use Rattle.dsm_asm.specs.declared.said.Statement.{Statement}
 use Rattle.dsm_asm.specs.declared.settings.Directive.{Directive}
 use Rattle.dsm_asm.specs.Assembled.{IsRefused}
@@ -79,16 +80,18 @@ meaning-anywhere s t labels (OfRegister op) words = refl
 meaning-anywhere s t labels (OfArithmetic op) words = refl
 meaning-anywhere s t labels (OfNumber op) words = refl
 meaning-anywhere s t labels (OfBranch op) words = refl
-meaning-anywhere s t labels (OfLock op) [] = refl
-meaning-anywhere s t labels (OfLock op) (word ∷ words) = refl
-meaning-anywhere s t labels OfBarrier [] = refl
-meaning-anywhere s t labels OfBarrier (word ∷ words) = refl
-meaning-anywhere s t labels Sets [] = refl
-meaning-anywhere s t labels Sets (word ∷ words) = refl
-meaning-anywhere s t labels Waits [] = refl
-meaning-anywhere s t labels Waits (word ∷ words) = refl
-meaning-anywhere s t labels Waitrs [] = refl
-meaning-anywhere s t labels Waitrs (word ∷ words) = refl
+meaning-anywhere s t labels (OfObject OnLock) [] = refl
+meaning-anywhere s t labels (OfObject OnLock) (word ∷ words) = refl
+meaning-anywhere s t labels (OfObject OnUnlock) [] = refl
+meaning-anywhere s t labels (OfObject OnUnlock) (word ∷ words) = refl
+meaning-anywhere s t labels (OfObject OnBar) [] = refl
+meaning-anywhere s t labels (OfObject OnBar) (word ∷ words) = refl
+meaning-anywhere s t labels (OfObject OnSet) [] = refl
+meaning-anywhere s t labels (OfObject OnSet) (word ∷ words) = refl
+meaning-anywhere s t labels (OfObject OnWait) [] = refl
+meaning-anywhere s t labels (OfObject OnWait) (word ∷ words) = refl
+meaning-anywhere s t labels (OfObject OnWaitr) [] = refl
+meaning-anywhere s t labels (OfObject OnWaitr) (word ∷ words) = refl
 
 pub Past-same : (p q : Past) → p.settings ≡ q.settings → p.initial ≡ q.initial → p.begun ≡ q.begun → p.code ≡ q.code → p ≡ q
 Past-same p q a b c d = λ i. record { settings = a i; initial = b i; begun = c i; code = d i }

@@ -19,8 +19,8 @@ use Rattle.dsm_grammar.specs.Grammar.{meaning_of, set_by, settings_of, instructi
 use Rattle.dsm_grammar.specs.Faults.{is_directive, is_instruction, is_late, is_init, begins_code, places_of, operands_fault, statement_fault, line_fault, first_fault_behind, first_fault_of}
 use Rattle.dsm_grammar.proofs.Tables.{EachRow, found, instructions_alike}
 use Rattle.dsm_grammar.proofs.Counting.{count, count-some, length-code_of}
-use Rattle.dsm_asm.specs.declared.forms.Form.TheVariants.{Lock as OfLock, Barrier as OfBarrier, Set as Sets, Wait as Waits, Waitr as Waitrs}
-use Rattle.dsm_asm.specs.declared.forms.OnLock.TheVariants.{Lock as OnTake, Unlock as OnGive}
+use Rattle.dsm_asm.specs.declared.forms.Form.TheVariants.{Object as OfObject}
+use Rattle.dsm_asm.specs.declared.forms.OnObject.TheVariants.{Lock as OnLock, Unlock as OnUnlock, Bar as OnBar, Set as OnSet, Wait as OnWait, Waitr as OnWaitr}
 use Rattle.dsm_asm.specs.declared.labels.Label.{Label}
 use Rattle.dsm_asm.specs.declared.labels.Labels.{Labels}
 use Rattle.dsm_asm.specs.Labelled.{line_of, Labelled}
@@ -32,7 +32,7 @@ use Rattle.dsm_asm.proofs.Whereabouts.{none-from_absent}
 -- Which instruction a statement is does not depend on which objects there are.
 rows_alike : (s t : Sizes) → EachRow (λ key row. (labels : List ℕ → Option ℕ) (words : List (List ℕ)) → option_map (λ (r : Row Instr). meaning_of labels r words) (named key (instructions t)) ≡ Some (meaning_of labels row words)) (instructions s)
 rows_alike s t =
-    (λ l w. refl, (λ l w. refl, (λ l w. refl, (λ l w. refl, (λ l w. refl, (λ l w. refl, (λ l w. refl, (λ l w. refl, (λ l w. refl, (λ l w. refl, (λ l w. refl, (λ l w. refl, (λ l w. refl, (λ l w. refl, (λ l w. refl, (λ l w. refl, (λ l w. refl, (λ l w. refl, (λ l w. refl, (λ l w. refl, (λ l w. refl, (λ l w. refl, (λ l w. refl, (λ l w. refl, (λ l w. refl, (λ l w. refl, (λ l w. ap Some (meaning-anywhere t s l (OfLock OnTake) w), (λ l w. ap Some (meaning-anywhere t s l (OfLock OnGive) w), (λ l w. ap Some (meaning-anywhere t s l OfBarrier w), (λ l w. ap Some (meaning-anywhere t s l Sets w), (λ l w. ap Some (meaning-anywhere t s l Waits w), (λ l w. ap Some (meaning-anywhere t s l Waitrs w), (λ l w. refl, (λ l w. refl, tt))))))))))))))))))))))))))))))))))
+    (λ l w. refl, (λ l w. refl, (λ l w. refl, (λ l w. refl, (λ l w. refl, (λ l w. refl, (λ l w. refl, (λ l w. refl, (λ l w. refl, (λ l w. refl, (λ l w. refl, (λ l w. refl, (λ l w. refl, (λ l w. refl, (λ l w. refl, (λ l w. refl, (λ l w. refl, (λ l w. refl, (λ l w. refl, (λ l w. refl, (λ l w. refl, (λ l w. refl, (λ l w. refl, (λ l w. refl, (λ l w. refl, (λ l w. refl, (λ l w. ap Some (meaning-anywhere t s l (OfObject OnLock) w), (λ l w. ap Some (meaning-anywhere t s l (OfObject OnUnlock) w), (λ l w. ap Some (meaning-anywhere t s l (OfObject OnBar) w), (λ l w. ap Some (meaning-anywhere t s l (OfObject OnSet) w), (λ l w. ap Some (meaning-anywhere t s l (OfObject OnWait) w), (λ l w. ap Some (meaning-anywhere t s l (OfObject OnWaitr) w), (λ l w. refl, (λ l w. refl, tt))))))))))))))))))))))))))))))))))
 
 instruction_in-anywhere : (s t : Sizes) (labels : List ℕ → Option ℕ) (words : List (List ℕ)) → instruction_in s labels words ≡ instruction_in t labels words
 instruction_in-anywhere s t labels [] = refl

@@ -7,7 +7,7 @@ use Rattle.dsm_grammar.specs.declared.fault.Bound.TheVariants.{Lock as ALock, Ba
 use Rattle.dsm_grammar.specs.Operands.{Register, Number, Within, Label}
 use Rattle.dsm_grammar.specs.Statements.{Statement, statement, three_registers, two_registers_number, two_registers_label}
 use Rattle.dsm_asm.specs.declared.forms.Form.{Form}
-use Rattle.dsm_asm.specs.declared.forms.Form.TheVariants.{Halt as Halts, Li as Lis, Mov as Movs, Jmp as Jmps, Register as OfRegister, Arithmetic as OfArithmetic, Number as OfNumber, Branch as OfBranch, Lock as OfLock, Barrier as OfBarrier, Set as Sets, Wait as Waits, Waitr as Waitrs}
+use Rattle.dsm_asm.specs.declared.forms.Form.TheVariants.{Halt as Halts, Li as Lis, Mov as Movs, Jmp as Jmps, Register as OfRegister, Arithmetic as OfArithmetic, Number as OfNumber, Branch as OfBranch, Object as OfObject}
 use Rattle.dsm_asm.specs.declared.forms.OnRegister.{OnRegister}
 use Rattle.dsm_asm.specs.declared.forms.OnRegister.TheVariants.{Me as OnMe, Procs as OnProcs, Out as OnOut}
 use Rattle.dsm_asm.specs.declared.forms.OnRegisters.{OnRegisters}
@@ -16,8 +16,8 @@ use Rattle.dsm_asm.specs.declared.forms.OnNumber.{OnNumber}
 use Rattle.dsm_asm.specs.declared.forms.OnNumber.TheVariants.{Addi as OnAddi, Subi as OnSubi, Muli as OnMuli, Ld as OnLd, St as OnSt}
 use Rattle.dsm_asm.specs.declared.forms.OnLabel.{OnLabel}
 use Rattle.dsm_asm.specs.declared.forms.OnLabel.TheVariants.{Beq as OnBeq, Bne as OnBne, Blt as OnBlt, Bge as OnBge}
-use Rattle.dsm_asm.specs.declared.forms.OnLock.{OnLock}
-use Rattle.dsm_asm.specs.declared.forms.OnLock.TheVariants.{Lock as OnTake, Unlock as OnGive}
+use Rattle.dsm_asm.specs.declared.forms.OnObject.{OnObject}
+use Rattle.dsm_asm.specs.declared.forms.OnObject.TheVariants.{Lock as OnLock, Unlock as OnUnlock, Bar as OnBar, Set as OnSet, Wait as OnWait, Waitr as OnWaitr}
 
 -- the instruction on one register
 abbrev pub with_register : OnRegister → ℕ → Instr
@@ -55,10 +55,14 @@ with_label OnBne a b to = Bne a b to
 with_label OnBlt a b to = Blt a b to
 with_label OnBge a b to = Bge a b to
 
--- the instruction on a lock
-abbrev pub with_lock : OnLock → ℕ → Instr
-with_lock OnTake l = Lock l
-with_lock OnGive l = Unlock l
+-- the operands of an instruction on a lock, a barrier or a flag and its meaning, where there are so many of them
+abbrev pub statement_on : Sizes → OnObject → Statement Instr
+statement_on there OnLock = statement (Within ALock 0 there.locks ∷ []) (λ v. Lock (v 0))
+statement_on there OnUnlock = statement (Within ALock 0 there.locks ∷ []) (λ v. Unlock (v 0))
+statement_on there OnBar = statement (Within ABarrier 0 there.barriers ∷ []) (λ v. Bar (v 0))
+statement_on there OnSet = statement (Within AFlag 0 there.flags ∷ []) (λ v. Set (v 0))
+statement_on there OnWait = statement (Within AFlag 0 there.flags ∷ Number ∷ []) (λ v. Wait (v 0) (v 1))
+statement_on there OnWaitr = statement (Within AFlag 0 there.flags ∷ Register ∷ []) (λ v. Waitr (v 0) (v 1))
 
 -- the operands of an instruction of this form and its meaning, where there are so many locks, barriers and flags
 abbrev pub statement_in : Sizes → Form → Statement Instr
@@ -70,8 +74,4 @@ statement_in there (OfRegister op) = statement (Register ∷ []) (λ v. with_reg
 statement_in there (OfArithmetic op) = statement three_registers (λ v. with_registers op (v 0) (v 1) (v 2))
 statement_in there (OfNumber op) = statement two_registers_number (λ v. with_number op (v 0) (v 1) (v 2))
 statement_in there (OfBranch op) = statement two_registers_label (λ v. with_label op (v 0) (v 1) (v 2))
-statement_in there (OfLock op) = statement (Within ALock 0 there.locks ∷ []) (λ v. with_lock op (v 0))
-statement_in there OfBarrier = statement (Within ABarrier 0 there.barriers ∷ []) (λ v. Bar (v 0))
-statement_in there Sets = statement (Within AFlag 0 there.flags ∷ []) (λ v. Set (v 0))
-statement_in there Waits = statement (Within AFlag 0 there.flags ∷ Number ∷ []) (λ v. Wait (v 0) (v 1))
-statement_in there Waitrs = statement (Within AFlag 0 there.flags ∷ Register ∷ []) (λ v. Waitr (v 0) (v 1))
+statement_in there (OfObject op) = statement_on there op

@@ -2,7 +2,7 @@ ghost use Rattle.std.specs.Prelude.{◌≡◌};
 ghost use Rattle.std.specs.Option.{option_map};
 ghost use Rattle.dsm_isa.specs.ProgramText.{Sizes};
 ghost use Rattle.dsm_grammar.specs.Statements.{named, instructions};
-ghost use Rattle.dsm_asm.specs.Forms.{statement_in, with_register, with_registers, with_number, with_label, with_lock};
+ghost use Rattle.dsm_asm.specs.Forms.{statement_in, with_register, with_registers, with_number, with_label};
 
 use dsm_isa::instr::Instr;
 use dsm_isa::reg::Reg;
@@ -22,12 +22,8 @@ pub enum Form {
     Number(OnNumber),
     /// On two registers and a label.
     Branch(OnLabel),
-    /// On a lock.
-    Lock(OnLock),
-    Barrier,
-    Set,
-    Wait,
-    Waitr,
+    /// On a lock, a barrier or a flag.
+    Object(OnObject),
 }
 
 #[derive(Clone, Copy, Debug, PartialEq, Eq)]
@@ -71,9 +67,13 @@ pub enum OnLabel {
 }
 
 #[derive(Clone, Copy, Debug, PartialEq, Eq)]
-pub enum OnLock {
+pub enum OnObject {
     Lock,
     Unlock,
+    Bar,
+    Set,
+    Wait,
+    Waitr,
 }
 
 /// The form of the instruction of this name, where there is one.
@@ -107,12 +107,12 @@ pub fn form_of(name: &[u8]) -> Option<Form>
         b"bne" => Some(Form::Branch(OnLabel::Bne)),
         b"blt" => Some(Form::Branch(OnLabel::Blt)),
         b"bge" => Some(Form::Branch(OnLabel::Bge)),
-        b"lock" => Some(Form::Lock(OnLock::Lock)),
-        b"unlock" => Some(Form::Lock(OnLock::Unlock)),
-        b"bar" => Some(Form::Barrier),
-        b"set" => Some(Form::Set),
-        b"wait" => Some(Form::Wait),
-        b"waitr" => Some(Form::Waitr),
+        b"lock" => Some(Form::Object(OnObject::Lock)),
+        b"unlock" => Some(Form::Object(OnObject::Unlock)),
+        b"bar" => Some(Form::Object(OnObject::Bar)),
+        b"set" => Some(Form::Object(OnObject::Set)),
+        b"wait" => Some(Form::Object(OnObject::Wait)),
+        b"waitr" => Some(Form::Object(OnObject::Waitr)),
         b"out" => Some(Form::Register(OnRegister::Out)),
         b"halt" => Some(Form::Halt),
         _ => None,
@@ -175,17 +175,6 @@ impl OnLabel {
             OnLabel::Bne => Instr::Bne { a, b, to },
             OnLabel::Blt => Instr::Blt { a, b, to },
             OnLabel::Bge => Instr::Bge { a, b, to },
-        }
-    }
-}
-
-impl OnLock {
-    pub fn on(self, l: u32) -> Instr
-        ensures { result ≡ with_lock self l }
-    {
-        match self {
-            OnLock::Lock => Instr::Lock { l },
-            OnLock::Unlock => Instr::Unlock { l },
         }
     }
 }

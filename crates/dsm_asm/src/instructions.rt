@@ -1,10 +1,10 @@
-ghost use Rattle.std.specs.Prelude.{◌≡◌, Some, None, IfOk, IfErr};
+ghost use Rattle.std.specs.Prelude.{◌≡◌, ℕ, List, Option, Some, None, IfOk, IfErr};
 ghost use Rattle.dsm_grammar.specs.Grammar.{meaning_of};
-ghost use Rattle.dsm_asm.specs.Forms.{statement_in};
+ghost use Rattle.dsm_asm.specs.Forms.{statement_in, statement_on};
 ghost use Rattle.dsm_asm.specs.Table.{places};
 ghost use Rattle.dsm_asm.specs.Words.{listed, words_fault};
 
-use crate::forms::Form;
+use crate::forms::{Form, OnObject};
 use crate::labels::Labels;
 use crate::operands::Operands;
 use crate::settings::Settings;
@@ -55,23 +55,38 @@ pub fn instruction(
             let (a, b, to) = operands.two_registers_label(labels)?;
             Ok(op.on(a, b, to))
         }
-        Form::Lock(op) => {
+        Form::Object(op) => on_object(op, operands, settings),
+    }
+}
+
+/// The instruction on a lock, a barrier or a flag with these operands.
+fn on_object(op: OnObject, operands: Operands, settings: &Settings) -> Result<Instr, AsmKind>
+    ensures sound { IfOk result (λ i. (labels : List ℕ → Option ℕ) → words_fault labels (statement_on settings.now.set.sizes op).places (listed operands.entry) ≡ None) }
+    ensures meaning { IfOk result (λ i. (labels : List ℕ → Option ℕ) → meaning_of labels (statement_on settings.now.set.sizes op) (listed operands.entry) ≡ i) }
+    ensures fault { IfErr result (λ kind. (labels : List ℕ → Option ℕ) → words_fault labels (statement_on settings.now.set.sizes op).places (listed operands.entry) ≡ Some kind) }
+{
+    match op {
+        OnObject::Lock => {
             let l = operands.within(Bound::Lock, 0, settings.locks())?;
-            Ok(op.on(l))
+            Ok(Instr::Lock { l })
         }
-        Form::Barrier => {
+        OnObject::Unlock => {
+            let l = operands.within(Bound::Lock, 0, settings.locks())?;
+            Ok(Instr::Unlock { l })
+        }
+        OnObject::Bar => {
             let b = operands.within(Bound::Barrier, 0, settings.barriers())?;
             Ok(Instr::Bar { b })
         }
-        Form::Set => {
+        OnObject::Set => {
             let f = operands.within(Bound::Flag, 0, settings.flags())?;
             Ok(Instr::Set { f })
         }
-        Form::Wait => {
+        OnObject::Wait => {
             let (f, k) = operands.below_number(Bound::Flag, settings.flags())?;
             Ok(Instr::Wait { f, k })
         }
-        Form::Waitr => {
+        OnObject::Waitr => {
             let (f, a) = operands.below_register(Bound::Flag, settings.flags())?;
             Ok(Instr::Waitr { f, a })
         }

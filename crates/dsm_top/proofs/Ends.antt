@@ -1,12 +1,12 @@
 -- How the one processor of a run ends.
 use Rattle.std.proofs.Common.{◌≡◌, ℕ, zero, suc, Bool, true, false, List, [], ◌∷◌, Option, None, Some, refl, sym, ap, subst, ◌∙◌, inl, inr}
-use Rattle.std.specs.Prelude.{All, IsSomeAnd}
+use Rattle.std.specs.Prelude.{IsSomeAnd}
 use Rattle.std.proofs.lemmas.List.Elements.{All-from_recursion}
 use Rattle.dsm_isa.specs.declared.instr.Instr.{Instr}
 use Rattle.dsm_isa.specs.ProgramText.{ProgramText}
 use Rattle.dsm_entry.specs.declared.entry.Entry.{Entry}
 use Rattle.dsm_local.specs.declared.action.Action.{Action}
-use Rattle.dsm_local.specs.declared.action.Action.TheVariants.{Set, Jump, LoadWord, StoreWord, Print, Trap, Spend, Arrive}
+use Rattle.dsm_local.specs.declared.action.Action.TheVariants.{Trap, Spend}
 use Rattle.dsm_local.specs.declared.end.End.{End}
 use Rattle.dsm_local.specs.declared.end.End.TheVariants.{Halted, Trapped, Spent}
 use Rattle.dsm_local.specs.declared.reader.Reader.{Reader}

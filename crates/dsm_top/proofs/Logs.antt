@@ -1,5 +1,5 @@
 -- The log of a run: what the processor did, newest first, with what the words then hold.
-use Rattle.std.proofs.Common.{◌≡◌, ◌≢◌, ℕ, zero, suc, ◌+◌, ◌<◌, ◌⊎◌, Bool, true, false, List, [], ◌∷◌, ◌++◌, Option, None, Some, length, length-append, drop, refl, sym, ap, ◌∙◌, inl, inr, arith, slice_get, slice_index, slice_set, replicate, if◌then◌else◌, ◌==◌}
+use Rattle.std.proofs.Common.{◌≡◌, ◌≢◌, ℕ, zero, suc, ◌+◌, ◌<◌, ◌⊎◌, Bool, true, false, List, [], ◌∷◌, ◌++◌, Option, None, Some, length, length-append, drop, refl, sym, ap, ◌∙◌, inl, inr, arith, slice_get, slice_index, slice_set, if◌then◌else◌, ◌==◌}
 use Rattle.std.proofs.lemmas.Bool.{cases_eq, eq-eqb, ne_eqb}
 use Rattle.std.proofs.Math.ListN.{length-set}
 use Rattle.std.proofs.lemmas.Grind.{get_or_after_one}
@@ -15,7 +15,6 @@ use Rattle.dsm_local.specs.declared.reader.Reader.{Reader}
 use Rattle.dsm_local.specs.Readers.{next_action, IsInside}
 use Rattle.dsm_local.proofs.Inside.{IsInside-next_action}
 use Rattle.dsm_words.specs.Op.{answer_of, words_after}
-use Rattle.dsm_words.specs.declared.op.Op.TheVariants.{Load as Read}
 use Rattle.dsm_machine.specs.Processor.{Processor, setting_of, op_of, after_action, after_pass, next_op}
 use Rattle.dsm_flat.specs.Flat.{Flat, Sourced, Final}
 use Rattle.dsm_flat.specs.Sync.{SyncLegal}

@@ -1,5 +1,5 @@
 -- Which words begin a plan's, and which is the first that doesn't.
-use Rattle.std.proofs.Common.{◌≡◌, ℕ, Bool, IsTrue, Option, sym, ◌∙◌, nat_eq, drop, subst, take, take-append-drop, ◌+◌, ◌-◌, ◌<◌, ◌≤◌, List, [], ◌∷◌, ◌++◌, Some, length, arith, refl, ap, inl, inr, slice_get, codes}
+use Rattle.std.proofs.Common.{◌≡◌, ℕ, Bool, IsTrue, Option, sym, ◌∙◌, nat_eq, drop, subst, take-append-drop, ◌+◌, ◌<◌, ◌≤◌, List, [], ◌∷◌, ◌++◌, Some, length, arith, refl, ap, inl, inr, slice_get, codes}
 use Rattle.std.specs.Prelude.{Result, Ok, Err, IfOk, IfErr}
 use Rattle.std.specs.Cmp.Lexicographic.{pointwise}
 use Rattle.std.proofs.lemmas.Bool.Decides.{Decides-eqb}

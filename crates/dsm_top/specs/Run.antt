@@ -1,5 +1,5 @@
 -- A run: one processor on its words, from the start, event by event.
-use Rattle.std.specs.Prelude.{◌≡◌, ℕ, zero, suc, ◌+◌, ◌*◌, ◌<◌, ◌==◌, if◌then◌else◌, List, [], ◌∷◌, Option, None, Some, drop, map, slice_index, All}
+use Rattle.std.specs.Prelude.{◌≡◌, ℕ, zero, suc, ◌*◌, ◌<◌, ◌==◌, if◌then◌else◌, List, [], ◌∷◌, Option, None, Some, drop, map, slice_index, All}
 use Rattle.std.specs.List.{fold, range_with_len}
 use Rattle.dsm_isa.specs.ProgramText.{ProgramText}
 use Rattle.dsm_entry.specs.declared.entry.Entry.{Entry}

@@ -1,6 +1,5 @@
-use Rattle.std.proofs.Common.{◌≡◌, ◌<◌, ◌≤◌, length, refl, sym, arith, List, [], ◌∷◌, ℕ, codes, Some, slice_get}
+use Rattle.std.proofs.Common.{length, refl}
 use Rattle.std.proofs.lemmas.List.{length-map}
-use Rattle.dsm_top.specs.declared.plans.Plan.{Plan}
 use Rattle.dsm_top.specs.declared.plans.Plan.TheVariants.{Check, List as Listing, Sim}
 use Rattle.dsm_top.specs.Plans.{texts}
 use Rattle.dsm_top.proofs.Words.{fault-at_first, fault-at_second, one_word, one_word-further, two_words, two_words-further, asked_if, faulty_if}

@@ -2,12 +2,10 @@ use Rattle.std.proofs.Common.{◌≡◌, zero, suc, [], ◌∷◌, ◌++◌, Lis
 use Rattle.dsm_entry.specs.declared.entry.Entry.{Entry}
 use Rattle.dsm_entry.specs.declared.trace.Trace.{Trace}
 use Rattle.dsm_words.specs.Op.{answer_of, words_after}
-use Rattle.dsm_local.specs.Local.{Local}
-use Rattle.dsm_machine.specs.declared.limits.TheConstants.{DEFAULT_TURNS}
-use Rattle.dsm_machine.specs.Processor.{next_action, next_op, after_event}
+use Rattle.dsm_machine.specs.Processor.{next_op, after_event}
 use Rattle.dsm_top.specs.Run.{State, size_of, after}
 use Rattle.dsm_top.proofs.Memory.{length-first_words}
-use Rattle.dsm_top.proofs.Moments.{after-next, length-words_after, take-whole, end-from_no_op}
+use Rattle.dsm_top.proofs.Moments.{after-next, length-words_after, take-whole}
 use Rattle.dsm_top.proofs.Logs.{legal, sourced_all, flat_all, final_all}
 use Rattle.dsm_top.proofs.running.run.Goals as goal
 

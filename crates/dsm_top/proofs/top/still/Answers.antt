@@ -1,4 +1,3 @@
-use Rattle.std.proofs.Common.{refl, arith}
 use Rattle.dsm_top.specs.Plans.{texts}
 use Rattle.dsm_top.proofs.Words.{none-PlanOf}
 use Rattle.dsm_top.proofs.Ends.{stopped-answer}

@@ -1,0 +1,12 @@
+pub mod Calls
+pub mod Events
+pub mod Lists
+pub mod Reaching
+pub mod Runs
+pub mod Sets
+pub mod Starting
+pub mod Stops
+pub mod Telling
+pub mod Wants
+pub mod Worked
+pub mod Working

@@ -1,0 +1,161 @@
+-- What a job may do with the stop word.
+use Rattle.std.proofs.Common.{◌≡◌, ◌≢◌, ℕ, ◌+◌, ◌-◌, ◌/◌, ◌%◌, ◌^◌, Bool, true, false, List, Option, Some, None, refl, if◌then◌else◌, ◌==◌}
+use Rattle.std.specs.Prelude.{slice_get, nat_lt, nat_le}
+use Rattle.std.proofs.lemmas.Bool.{eqb-false}
+use Rattle.dsm_isa.specs.declared.instr.Instr.{Instr}
+use Rattle.dsm_isa.specs.declared.instr.Instr.TheVariants.{Lock, Unlock, Bar, Set as SetFlag, Wait, Waitr}
+use Rattle.dsm_local.specs.declared.action.Action.{Action}
+use Rattle.dsm_local.specs.declared.action.Action.TheVariants.{Set, Jump, LoadWord, StoreWord, Print, Trap, Spend, Arrive}
+use Rattle.dsm_local.specs.Actions.{value, action_of}
+use Rattle.dsm_words.specs.declared.item.Item.TheVariants.{Stop}
+use Rattle.dsm_words.specs.Script.{Act, Get, Change, item_of}
+use Rattle.dsm_words.specs.Script.{End}
+use Rattle.dsm_sync.specs.declared.got.Got.{Got}
+use Rattle.dsm_sync.specs.declared.got.Got.TheVariants.{Ready, Unready}
+use Rattle.dsm_sync.specs.Counters.{counter_item}
+use Rattle.dsm_sync.specs.Counting.{count_of}
+use Rattle.dsm_sync.specs.Locks.{take_script}
+use Rattle.dsm_sync.specs.declared.counter.Counter.{Counter}
+use Rattle.dsm_sync.specs.declared.counter.Counter.TheVariants.{Barrier, Flag, Close}
+use Rattle.dsm_core.specs.Ends.{Ending, Plain, NotHeld, Halted, Trapped, Spent, Looked, Stopped, NoMemory}
+use Rattle.dsm_core.specs.Own.{Own, Who, setting_of, open_pass}
+use Rattle.dsm_core.specs.Jobs.{Job, Make, Again, Mark, Ask, Begin, Ended, Head, Instruction, Locking, Looking, own_after, call}
+use Rattle.dsm_core.specs.Steps.{action_job, instruction_job, unlock_job, stop_job, head_job, unready_job, heed_job, look_job, lock_job, arrive_job, set_job, is_last, passed_job, tried_job, looked_job}
+use Rattle.dsm_core.specs.Processors.{settled, run_on}
+use Rattle.dsm_core.specs.Stopping.{TellsAll}
+
+-- the one change of the stop word is the last operation, with which processor p ends and tells all others
+abbrev pub MayMake : ℕ → Act → (ℕ → Job) → Type 0
+MayMake p (Get it) k = Unit {0}
+MayMake p (Change Stop old new) k = (old ≡ 0) × (new ≡ p + 1) × ((x : ℕ) → (e : Ending) × (k x ≡ Ended e) × TellsAll e)
+MayMake p a k = item_of a ≢ Stop
+
+-- what a load of the stop word has given
+abbrev pub loaded : Act → ℕ → Option ℕ
+loaded (Get Stop) x = Some x
+loaded a x = None
+
+-- p is stopped by the one that the word named, and never by a word that is 0
+abbrev pub MayEnd : Option ℕ → Ending → Type 0
+MayEnd d (Stopped b) = (x : ℕ) × (d ≡ Some x) × (x ≢ 0) × (b ≡ (x - 1) % 2 ^ 32)
+MayEnd d e = Unit {0}
+
+abbrev pub Heeds : ℕ → Option ℕ → Job → Type 0
+Heeds p d (Make a k) = MayMake p a k × ((x : ℕ) → Heeds p (loaded a x) (k x))
+Heeds p d (Again a wanted j) = (item_of a ≢ Stop) × Heeds p None j
+Heeds p d (Mark n j) = Heeds p d j
+Heeds p d (Ask f) = (o : Own) → Heeds p d (f o)
+Heeds p d (Begin h) = Unit {0}
+Heeds p d (Ended e) = MayEnd d e
+
+module _ (u : Who) where
+  pub stop_heeds : (d : Option ℕ) (e : Ending) → TellsAll e → Heeds u.p d (stop_job u e)
+  stop_heeds d Halted t = absurd t
+  stop_heeds d (Trapped at fault) t = ((refl, refl, λ x. (Trapped at fault, refl, tt)), λ x. tt)
+  stop_heeds d Spent t = ((refl, refl, λ x. (Spent, refl, tt)), λ x. tt)
+  stop_heeds d Looked t = ((refl, refl, λ x. (Looked, refl, tt)), λ x. tt)
+  stop_heeds d (Stopped by) t = absurd t
+  stop_heeds d NoMemory t = ((refl, refl, λ x. (NoMemory, refl, tt)), λ x. tt)
+
+  heed_heeds : (again : Head) (x : ℕ) → Heeds u.p (Some x) (heed_job again x)
+  heed_heeds again x = go (x == 0) refl
+    where
+      go : (b : Bool) → (x == 0) ≡ b → Heeds u.p (Some x) (if b then Begin again else Ended (Stopped ((x - 1) % 2 ^ 32)))
+      go true is = tt
+      go false is = (x, refl, eqb-false x 0 is, refl)
+
+  unready_heeds : (d : Option ℕ) (again : Head) → Heeds u.p d (unready_job u again)
+  unready_heeds d again o = go (is_last u.limits.looks o.counts.unready)
+    where
+      go : (b : Bool) → Heeds u.p d (if b then stop_job u Looked else Make (Get Stop) (heed_job again))
+      go true = stop_heeds d Looked tt
+      go false = (tt, λ x. heed_heeds again x)
+
+  tried_heeds : (d : Option ℕ) (l : ℕ) (got : Got) → Heeds u.p d (tried_job u l got)
+  tried_heeds d l (Ready c) = tt
+  tried_heeds d l Unready = unready_heeds d (Locking l)
+
+  lock_heeds : (d : Option ℕ) (l : ℕ) → Heeds u.p d (lock_job u l)
+  lock_heeds d l = (tt, λ v. taken v (v % 2 == 0))
+    where
+      won : (v x : ℕ) (b : Bool) → Heeds u.p None (tried_job u l (if b then Ready (v / 2) else Unready))
+      won v x true = tried_heeds None l (Ready (v / 2))
+      won v x false = tried_heeds None l Unready
+
+      taken : (v : ℕ) (b : Bool) → Heeds u.p None (call (if b then take_script l v else End Unready) (tried_job u l))
+      taken v true = (λ e. absurd (cc e), λ x. won v x (x == v))
+      taken v false = tried_heeds None l Unready
+
+  unlock_heeds : (d : Option ℕ) (o : Own) (l : ℕ) (k : Option ℕ) → Heeds u.p d (unlock_job u o l k)
+  unlock_heeds d o l None = stop_heeds d (Trapped o.reader.place (NotHeld l)) tt
+  unlock_heeds d o l (Some k) = (λ e. absurd (cc e), λ x. tt)
+
+  passed_heeds : (d : Option ℕ) (of : Counter) → Heeds u.p d (passed_job u of)
+  passed_heeds d (Barrier b) = tt
+  passed_heeds d (Flag f) = tt
+  passed_heeds d Close = tt
+
+  look_heeds : (d : Option ℕ) (of : Counter) (need : ℕ) → Heeds u.p d (look_job u of need)
+  look_heeds d of need = (tt, λ v. found v (loaded (Get (counter_item of)) v) (nat_le need v))
+    where
+      found : (v : ℕ) (e : Option ℕ) (b : Bool) → Heeds u.p e (looked_job u of need (if b then Ready (count_of of need v) else Unready))
+      found v e true = passed_heeds e of
+      found v e false = unready_heeds e (Looking of need)
+
+  counter_is_not_stop : (of : Counter) → counter_item of ≢ Stop
+  counter_is_not_stop (Barrier b) = λ e. absurd (cc e)
+  counter_is_not_stop (Flag f) = λ e. absurd (cc e)
+  counter_is_not_stop Close = λ e. absurd (cc e)
+
+  arrive_heeds : (d : Option ℕ) (of : Counter) → Heeds u.p d (arrive_job u of)
+  arrive_heeds d (Barrier b) = (λ e. absurd (cc e), λ a. tt)
+  arrive_heeds d (Flag f) = (λ e. absurd (cc e), λ a. tt)
+  arrive_heeds d Close = (λ e. absurd (cc e), λ a. tt)
+
+  set_heeds : (d : Option ℕ) (f : ℕ) → Heeds u.p d (set_job u f)
+  set_heeds d f = (λ e. absurd (cc e), λ j. tt)
+
+  action_heeds : (d : Option ℕ) (o : Own) (a : Action) → Heeds u.p d (action_job u o a)
+  action_heeds d o (Set r v) = (tt, λ x. tt)
+  action_heeds d o (Jump to) = (tt, λ x. tt)
+  action_heeds d o (LoadWord r w) = (tt, λ x. tt)
+  action_heeds d o (StoreWord w v) = (λ e. absurd (cc e), λ x. tt)
+  action_heeds d o (Print v) = (tt, λ x. tt)
+  action_heeds d o (Trap kind) = stop_heeds d (Trapped o.reader.place (Plain kind)) tt
+  action_heeds d o Spend = stop_heeds d Spent tt
+  action_heeds d o Arrive = arrive_heeds d Close
+
+  instruction_heeds : (d : Option ℕ) (o : Own) (i : Option Instr) → Heeds u.p d (instruction_job u o i)
+  instruction_heeds d o (Some (Lock l)) = lock_heeds d l
+  instruction_heeds d o (Some (Unlock l)) = unlock_heeds d o l (open_pass o l)
+  instruction_heeds d o (Some (Bar b)) = arrive_heeds d (Barrier b)
+  instruction_heeds d o (Some (SetFlag f)) = set_heeds d f
+  instruction_heeds d o (Some (Wait f k)) = look_heeds d (Flag f) k
+  instruction_heeds d o (Some (Waitr f a)) = look_heeds d (Flag f) (value o.reader a)
+  instruction_heeds d o i = action_heeds d o (action_of (setting_of u) o.reader i)
+
+  head_heeds : (code : List Instr) (d : Option ℕ) (h : Head) → Heeds u.p d (head_job u code h)
+  head_heeds code d Instruction = λ o. go o (nat_lt o.reader.done u.limits.turns)
+    where
+      go : (o : Own) (b : Bool) → Heeds u.p d (if b then instruction_job u o (slice_get code o.reader.place) else stop_job u Spent)
+      go o true = instruction_heeds d o (slice_get code o.reader.place)
+      go o false = stop_heeds d Spent tt
+  head_heeds code d (Locking l) = lock_heeds d l
+  head_heeds code d (Looking of need) = look_heeds d of need
+
+  -- what is done at once leaves it as it is
+  settled_heeds : (d : Option ℕ) (j : Job) (o : Own) → Heeds u.p d j → Heeds u.p d (settled o j).todo
+  settled_heeds d (Make a k) o h = h
+  settled_heeds d (Again a wanted j) o h = h
+  settled_heeds d (Mark n j) o h = settled_heeds d j (own_after o n) h
+  settled_heeds d (Ask f) o h = settled_heeds d (f o) o (h o)
+  settled_heeds d (Begin g) o h = h
+  settled_heeds d (Ended e) o h = h
+
+  pub run_heeds : (code : List Instr) (d : Option ℕ) (j : Job) (o : Own) → Heeds u.p d j → Heeds u.p d (run_on u code o j).todo
+  run_heeds code d (Make a k) o h = h
+  run_heeds code d (Again a wanted j) o h = h
+  run_heeds code d (Mark n j) o h = run_heeds code d j (own_after o n) h
+  run_heeds code d (Ask f) o h = run_heeds code d (f o) o (h o)
+  run_heeds code d (Begin g) o h = settled_heeds d (head_job u code g) o (head_heeds code d g)
+  run_heeds code d (Ended e) o h = h

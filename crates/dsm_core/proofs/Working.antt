@@ -1,0 +1,63 @@
+-- A processor that has not ended stands before an operation.
+use Rattle.std.proofs.Common.{◌≡◌, ℕ, Bool, true, false, List, [], ◌∷◌, Option, Some, None, refl, if◌then◌else◌}
+use Rattle.std.specs.Prelude.{slice_get, nat_lt}
+use Rattle.dsm_isa.specs.declared.instr.Instr.{Instr}
+use Rattle.dsm_isa.specs.declared.instr.Instr.TheVariants.{Lock, Unlock, Bar, Set as SetFlag, Wait, Waitr}
+use Rattle.dsm_local.specs.declared.action.Action.{Action}
+use Rattle.dsm_local.specs.declared.action.Action.TheVariants.{Set, Jump, LoadWord, StoreWord, Print, Trap, Spend, Arrive}
+use Rattle.dsm_local.specs.Actions.{action_of}
+use Rattle.dsm_core.specs.Own.{Own, Who, setting_of, open_pass, new_own}
+use Rattle.dsm_core.specs.Jobs.{Job, Make, Again, Mark, Ask, Begin, Ended, Head, Instruction, Locking, Looking, own_after, job_after, is_ready}
+use Rattle.dsm_core.specs.Steps.{action_job, instruction_job, unlock_job, stop_job, head_job}
+use Rattle.dsm_core.specs.Ends.{Spent}
+use Rattle.dsm_core.specs.Processors.{settled, run_on, wanting, processor_of}
+use Rattle.dsm_core.specs.Laws.{EveryProcessorIsReady}
+
+module _ (u : Who) where
+  abbrev IsReady : Own → Job → Type 0
+  IsReady o j = is_ready (settled o j).todo ≡ true
+
+  action_ready : (o p : Own) (a : Action) → IsReady p (action_job u o a)
+  action_ready o p (Set d v) = refl
+  action_ready o p (Jump to) = refl
+  action_ready o p (LoadWord d w) = refl
+  action_ready o p (StoreWord w v) = refl
+  action_ready o p (Print v) = refl
+  action_ready o p (Trap kind) = refl
+  action_ready o p Spend = refl
+  action_ready o p Arrive = refl
+
+  unlock_ready : (o p : Own) (l : ℕ) (k : Option ℕ) → IsReady p (unlock_job u o l k)
+  unlock_ready o p l None = refl
+  unlock_ready o p l (Some k) = refl
+
+  instruction_ready : (o p : Own) (i : Option Instr) → IsReady p (instruction_job u o i)
+  instruction_ready o p (Some (Lock l)) = refl
+  instruction_ready o p (Some (Unlock l)) = unlock_ready o p l (open_pass o l)
+  instruction_ready o p (Some (Bar b)) = refl
+  instruction_ready o p (Some (SetFlag f)) = refl
+  instruction_ready o p (Some (Wait f k)) = refl
+  instruction_ready o p (Some (Waitr f a)) = refl
+  instruction_ready o p i = action_ready o p (action_of (setting_of u) o.reader i)
+
+  head_ready : (code : List Instr) (o : Own) (h : Head) → IsReady o (head_job u code h)
+  head_ready code o Instruction = go (nat_lt o.reader.done u.limits.turns)
+    where
+      go : (b : Bool) → IsReady o (if b then instruction_job u o (slice_get code o.reader.place) else stop_job u Spent)
+      go true = instruction_ready o o (slice_get code o.reader.place)
+      go false = refl
+  head_ready code o (Locking l) = refl
+  head_ready code o (Looking of need) = refl
+
+  pub run_ready : (code : List Instr) (j : Job) (o : Own) → is_ready (run_on u code o j).todo ≡ true
+  run_ready code (Make a k) o = refl
+  run_ready code (Again a wanted j) o = refl
+  run_ready code (Mark n j) o = run_ready code j (own_after o n)
+  run_ready code (Ask f) o = run_ready code (f o) o
+  run_ready code (Begin h) o = head_ready code o h
+  run_ready code (Ended e) o = refl
+
+pub every_ready : EveryProcessorIsReady
+unfolding processor_of
+every_ready u code [] = run_ready u code (Begin Instruction) new_own
+every_ready u code (g ∷ gs) = let m = wanting u g.starved (processor_of u code gs) in run_ready u code (job_after m.todo g.got) m.own

@@ -1,0 +1,98 @@
+-- What a processor still has to do, as a script whose steps also look at what it holds and change it.
+use Rattle.std.specs.Prelude.{ℕ, ◌==◌, Bool, true, false, if◌then◌else◌, Option, None, Some}
+use Rattle.dsm_entry.specs.declared.entry.Entry.{Entry}
+use Rattle.dsm_words.specs.declared.item.Item.TheVariants.{Stop, Turn, NoticeTurn}
+use Rattle.dsm_words.specs.Script.{Act, Get, Put, Script, End, Do, Until}
+use Rattle.dsm_clock.specs.declared.turns.TurnId.{TurnId}
+use Rattle.dsm_clock.specs.declared.turns.TurnId.TheVariants.{Page, Notices}
+use Rattle.dsm_local.specs.Readers.{given, jumped, moved}
+use Rattle.dsm_sync.specs.declared.counter.Counter.{Counter}
+use Rattle.dsm_core.specs.Ends.{Ending}
+use Rattle.dsm_core.specs.Own.{Own, new_own, appended, looked_again}
+
+-- a change of what it holds, which ends an instruction (with v in register d; at place `to`; at the next place), or appends an entry, or counts an unready look
+pub data Note : Type 0 where
+  Give : ℕ → ℕ → Note
+  Go : ℕ → Note
+  Move : Note
+  Append : Entry → Note
+  Count_unready : Note
+
+-- what it holds behind a change
+abbrev pub own_after : Own → Note → Own
+own_after o (Give d v) = record o { reader = given o.reader d v }
+own_after o (Go to) = record o { reader = jumped o.reader to }
+own_after o Move = record o { reader = moved o.reader }
+own_after o (Append e) = appended o e
+own_after o Count_unready = looked_again o
+
+-- where it goes round: the instruction at its reader's place begins, lock l is tried, or an object is looked at until it has had `need` signals
+pub data Head : Type 0 where
+  Instruction : Head
+  Locking : ℕ → Head
+  Looking : Counter → ℕ → Head
+
+-- a job: an operation and what follows its answer; an operation until it has the wanted answer; a change of what it holds and a look at what it holds then, both in the event of the operation before them; a head; the end
+pub data Job : Type 0 where
+  Make : Act → (ℕ → Job) → Job
+  Again : Act → ℕ → Job → Job
+  Mark : Note → Job → Job
+  Ask : (Own → Job) → Job
+  Begin : Head → Job
+  Ended : Ending → Job
+  deriving IsSet as Job-set'
+
+-- a phase within a job
+abbrev pub call : {R : Type 0} → Script R → (R → Job) → Job
+call (End r) f = f r
+call (Do a k) f = Make a (λ x. call (k x) f)
+call (Until a wanted s) f = Again a wanted (call s f)
+
+-- the operation that comes first
+abbrev pub first_act : Job → Act
+first_act (Make a k) = a
+first_act (Again a wanted j) = a
+first_act _ = Get Stop
+
+-- what is left behind its answer
+abbrev pub job_after : Job → ℕ → Job
+job_after (Make a k) x = k x
+job_after (Again a wanted j) x = if x == wanted then j else Again a wanted j
+job_after (Mark n j) x = Mark n j
+job_after (Ask f) x = Ask f
+job_after (Begin h) x = Begin h
+job_after (Ended e) x = Ended e
+
+-- it stands before an operation, or has ended
+abbrev pub is_ready : Job → Bool
+is_ready (Make a k) = true
+is_ready (Again a wanted j) = true
+is_ready (Mark n j) = false
+is_ready (Ask f) = false
+is_ready (Begin h) = false
+is_ready (Ended e) = true
+
+-- the end, where it has come
+abbrev pub end_of : Job → Option Ending
+end_of (Ended e) = Some e
+end_of _ = None
+
+-- whether it has come
+abbrev pub has_ended : Job → Bool
+has_ended (Ended e) = true
+has_ended _ = false
+
+-- the turn that a store gives back
+abbrev pub turn_back : Act → Option TurnId → Option TurnId
+turn_back (Put (Turn g) v) later = Some (Page g)
+turn_back (Put (NoticeTurn n) v) later = Some (Notices n)
+turn_back _ later = later
+
+-- the turn that a job holds: the one that it gives back before it takes any
+abbrev pub held_turn : Job → Option TurnId
+held_turn (Make a k) = turn_back a (held_turn (k 0))
+held_turn (Again a wanted j) = None
+held_turn (Mark n j) = held_turn j
+held_turn (Ask f) = held_turn (f new_own)
+held_turn (Begin h) = None
+held_turn (Ended e) = None

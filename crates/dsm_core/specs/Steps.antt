@@ -1,0 +1,136 @@
+-- What a processor does, sentence by sentence.
+use Rattle.std.specs.Prelude.{ℕ, ◌+◌, ◌-◌, ◌*◌, ◌/◌, ◌%◌, ◌^◌, ◌==◌, nat_lt, Bool, false, if◌then◌else◌, List, Option, None, Some, slice_get}
+use Rattle.dsm_entry.specs.declared.entry.Entry.TheVariants.{Load, Store, Signal, Pass, Out}
+use Rattle.dsm_entry.specs.declared.entry.Obj.{Obj}
+use Rattle.dsm_entry.specs.declared.entry.Obj.TheVariants.{Lock as LockOf, Barrier as BarrierOf, Flag as FlagOf, Close as CloseOf}
+use Rattle.dsm_isa.specs.declared.instr.Instr.{Instr}
+use Rattle.dsm_isa.specs.declared.instr.Instr.TheVariants.{Lock, Unlock, Bar, Set as SetFlag, Wait, Waitr}
+use Rattle.dsm_local.specs.declared.action.Action.{Action}
+use Rattle.dsm_local.specs.declared.action.Action.TheVariants.{Set, Jump, LoadWord, StoreWord, Print, Trap, Spend, Arrive}
+use Rattle.dsm_local.specs.Actions.{value, action_of}
+use Rattle.dsm_words.specs.declared.item.Item.{Item}
+use Rattle.dsm_words.specs.declared.item.Item.TheVariants.{Stop, Frame}
+use Rattle.dsm_words.specs.Place.{processors}
+use Rattle.dsm_words.specs.Script.{Get, Put, Change}
+use Rattle.dsm_sync.specs.declared.counter.Counter.{Counter}
+use Rattle.dsm_sync.specs.declared.counter.Counter.TheVariants.{Barrier, Flag, Close}
+use Rattle.dsm_sync.specs.declared.got.Got.{Got}
+use Rattle.dsm_sync.specs.declared.got.Got.TheVariants.{Ready, Unready}
+use Rattle.dsm_sync.specs.Counting.{look_script, signal_script}
+use Rattle.dsm_sync.specs.Locks.{lock_script, unlock_script}
+use Rattle.dsm_core.specs.Ends.{Ending, Plain, NotHeld, Halted, Trapped, Spent, Looked, Stopped, NoMemory}
+use Rattle.dsm_core.specs.Own.{Own, Who, node_of, setting_of, open_pass}
+use Rattle.dsm_core.specs.Jobs.{Job, Make, Mark, Ask, Begin, Ended, Give, Go, Move, Append, Count_unready, Head, Instruction, Locking, Looking, call}
+
+-- the instruction is done, and the next one begins
+abbrev pub next_instruction : Job
+next_instruction = Mark Move (Begin Instruction)
+
+-- it tells all others to stop, unless another did, and ends
+abbrev pub stop_job : Who → Ending → Job
+stop_job u e = Make (Change Stop 0 (u.p + 1)) (λ _. Ended e)
+
+-- a release, an acquire and the closing work, and then the rest: nothing is mapped yet, and all use the frames of one node, so that there is nothing to do
+abbrev pub release_job : Who → Job → Job
+release_job u rest = rest
+
+abbrev pub acquire_job : Who → Job → Job
+acquire_job u rest = rest
+
+abbrev pub closing_job : Who → Job → Job
+closing_job u rest = rest
+
+-- the word of address w in the frames of its node
+abbrev pub address_item : Who → ℕ → Item
+address_item u w = Frame (node_of u) (w / u.lay.words) (w % u.lay.words)
+
+-- the number of the look is that of the last one allowed
+abbrev pub is_last : Option ℕ → ℕ → Bool
+is_last None k = false
+is_last (Some last) k = k == last
+
+-- the stop word was loaded: where another processor has stopped, it ends; else it looks again
+abbrev pub heed_job : Head → ℕ → Job
+heed_job again x = if x == 0 then Begin again else Ended (Stopped ((x - 1) % 2 ^ 32))
+
+-- an object was not ready: this is counted, and where it was the last look allowed, it stops; else it loads the stop word
+abbrev pub unready_job : Who → Head → Job
+unready_job u again = Mark Count_unready (Ask (λ o. if is_last u.limits.looks o.counts.unready then stop_job u Looked else Make (Get Stop) (heed_job again)))
+
+-- a try of lock l has found this
+abbrev pub tried_job : Who → ℕ → Got → Job
+tried_job u l (Ready c) = Mark (Append (Pass (LockOf l) c)) (acquire_job u next_instruction)
+tried_job u l Unready = unready_job u (Locking l)
+
+-- lock l: it is tried until it is passed
+abbrev pub lock_job : Who → ℕ → Job
+lock_job u l = call (lock_script l) (tried_job u l)
+
+-- unlock l: the lock is given back with the count of its open pass, and where there is none, it stops
+abbrev pub unlock_job : Who → Own → ℕ → Option ℕ → Job
+unlock_job u o l None = stop_job u (Trapped o.reader.place (NotHeld l))
+unlock_job u o l (Some k) = release_job u (call (unlock_script l k) (λ _. Mark (Append (Signal (LockOf l) k)) next_instruction))
+
+-- the object whose word is looked at
+abbrev pub object_of : Counter → Obj
+object_of (Barrier b) = BarrierOf b
+object_of (Flag f) = FlagOf f
+object_of Close = CloseOf
+
+-- behind the pass of a flag or a barrier the next instruction comes, and behind that of the closing barrier the end
+abbrev pub passed_job : Who → Counter → Job
+passed_job u (Barrier b) = acquire_job u next_instruction
+passed_job u (Flag f) = acquire_job u next_instruction
+passed_job u Close = closing_job u (Ended Halted)
+
+-- a look at a barrier or a flag has found this
+abbrev pub looked_job : Who → Counter → ℕ → Got → Job
+looked_job u of need (Ready c) = Mark (Append (Pass (object_of of) c)) (passed_job u of)
+looked_job u of need Unready = unready_job u (Looking of need)
+
+-- a barrier or a flag is looked at until it is passed
+abbrev pub look_job : Who → Counter → ℕ → Job
+look_job u of need = call (look_script of need) (looked_job u of need)
+
+-- the arrivals that the round of arrival number a needs: all processors, once for it and for each round before it
+abbrev pub need_of : Who → ℕ → ℕ
+need_of u a = (a / processors u.lay + 1) * processors u.lay % 2 ^ 64
+
+-- it arrives at a barrier or at the closing barrier, and waits for all
+abbrev pub arrive_job : Who → Counter → Job
+arrive_job u of = release_job u (call (signal_script of) (λ a. Mark (Append (Signal (object_of of) a)) (Begin (Looking of (need_of u a)))))
+
+-- set f: the flag is set once more
+abbrev pub set_job : Who → ℕ → Job
+set_job u f = release_job u (call (signal_script (Flag f)) (λ j. Mark (Append (Signal (FlagOf f) j)) next_instruction))
+
+-- an instruction without synchronisation does one operation: the load or store itself, or a load of the stop word whose answer is not used
+abbrev pub action_job : Who → Own → Action → Job
+action_job u o (Set d v) = Make (Get Stop) (λ _. Mark (Give d v) (Begin Instruction))
+action_job u o (Jump to) = Make (Get Stop) (λ _. Mark (Go to) (Begin Instruction))
+action_job u o (LoadWord d w) = Make (Get (address_item u w)) (λ v. Mark (Append (Load w v)) (Mark (Give d v) (Begin Instruction)))
+action_job u o (StoreWord w v) = Make (Put (address_item u w) v) (λ _. Mark (Append (Store w v)) next_instruction)
+action_job u o (Print v) = Make (Get Stop) (λ _. Mark (Append (Out v)) next_instruction)
+action_job u o (Trap kind) = stop_job u (Trapped o.reader.place (Plain kind))
+action_job u o Spend = stop_job u Spent
+action_job u o Arrive = arrive_job u Close
+
+-- an instruction, or past the last one a halt
+abbrev pub instruction_job : Who → Own → Option Instr → Job
+instruction_job u o (Some (Lock l)) = lock_job u l
+instruction_job u o (Some (Unlock l)) = unlock_job u o l (open_pass o l)
+instruction_job u o (Some (Bar b)) = arrive_job u (Barrier b)
+instruction_job u o (Some (SetFlag f)) = set_job u f
+instruction_job u o (Some (Wait f k)) = look_job u (Flag f) k
+instruction_job u o (Some (Waitr f a)) = look_job u (Flag f) (value o.reader a)
+instruction_job u o i = action_job u o (action_of (setting_of u) o.reader i)
+
+-- what comes at a head; an instruction begins only where fewer than `turns` are done
+abbrev pub head_job : Who → List Instr → Head → Job
+head_job u code Instruction = Ask (λ o. if nat_lt o.reader.done u.limits.turns then instruction_job u o (slice_get code o.reader.place) else stop_job u Spent)
+head_job u code (Locking l) = lock_job u l
+head_job u code (Looking of need) = look_job u of need
+
+-- there was no memory for the next entry: in place of the next operation it tells all others to stop, and ends
+abbrev pub starved_job : Who → Job
+starved_job u = stop_job u NoMemory

@@ -1,0 +1,4 @@
+// All processors and all words: what a run is, as definitions.
+#![tactic(auto)]
+
+pub mod laws;
