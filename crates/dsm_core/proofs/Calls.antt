@@ -2,7 +2,7 @@
 use Rattle.std.proofs.Common.{◌≡◌, ℕ, Bool, true, false, refl, ap, if◌then◌else◌, ◌==◌}
 use Rattle.dsm_words.specs.declared.turn.Turn.TheVariants.{Done}
 use Rattle.dsm_words.specs.Script.{Script, End, Do, Until, is_open, step, turn_of}
-use Rattle.dsm_core.specs.Jobs.{Job, Again, call, job_after}
+use Rattle.dsm_machine.specs.Jobs.{Job, Again, call, job_after}
 
 pub job_after-call : {R : Type 0} (s : Script R) (f : R → Job) (x : ℕ) → is_open s ≡ true → job_after (call s f) x ≡ call (step s x) f
 job_after-call (End r) f x alive = absurd (cc alive)

@@ -2,7 +2,7 @@
 use Rattle.std.proofs.Common.{◌≡◌, ℕ, ◌+◌, ◌*◌, ◌<◌, List, [], length, map, Some, sym, ap, ◌∙◌, subst, arith}
 use Rattle.std.specs.Prelude.{slice_get}
 use Rattle.dsm_words.specs.Place.{total}
-use Rattle.dsm_core.specs.Processors.{Processor, Given, new_processor, processor_of}
+use Rattle.dsm_machine.specs.Processors.{Processor, Given, new_processor, processor_of}
 use Rattle.dsm_core.specs.Setups.{Setup, lay_in, who_at}
 use Rattle.dsm_core.specs.Clusters.{Event, start, exactly, after_all_loose, reached}
 use Rattle.dsm_core.proofs.Lists.{slice_get-map-range_with_len_below}

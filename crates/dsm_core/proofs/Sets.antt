@@ -1,8 +1,8 @@
 -- What a processor is has one proof at most, so that a type may keep it as a fact of its own.
 use Rattle.std.proofs.Props.{props}
 use Rattle.dsm_words.specs.Script.{Act}
-use Rattle.dsm_core.specs.Jobs.{Job, Job-set'}
-use Rattle.dsm_core.specs.Processors.{Processor}
+use Rattle.dsm_machine.specs.Jobs.{Job, Job-set'}
+use Rattle.dsm_machine.specs.Processors.{Processor}
 
 pub Act-set : IsSet Act
 Act-set = hlevel props

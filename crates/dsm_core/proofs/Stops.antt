@@ -10,10 +10,12 @@ use Rattle.dsm_words.specs.Place.{Lay, place, total}
 use Rattle.dsm_words.specs.Script.{Act, Get, Put, Swap, Change, Add, Or, item_of}
 use Rattle.dsm_words.specs.Words.{word, done, reply}
 use Rattle.dsm_words.proofs.WordLaws.{length-done}
-use Rattle.dsm_core.specs.Ends.{Ending, Stopped, NoMemory}
-use Rattle.dsm_core.specs.Own.{Who, new_own}
-use Rattle.dsm_core.specs.Jobs.{Job, Make, Again, Mark, Ask, Begin, Ended, first_act, job_after, Instruction, has_ended, end_of, held_turn, is_ready}
-use Rattle.dsm_core.specs.Processors.{Processor, wanting, after_answer, run_on, new_processor}
+use Rattle.dsm_machine.specs.declared.ending.Ending.{Ending}
+use Rattle.dsm_machine.specs.declared.ending.Ending.TheVariants.{Stopped, NoMemory}
+use Rattle.dsm_machine.specs.Own.{Who, new_own}
+use Rattle.dsm_machine.specs.Jobs.{Job, Make, Again, Mark, Ask, Begin, Ended, first_act, job_after, has_ended, end_of, held_turn, is_ready}
+use Rattle.dsm_machine.specs.declared.head.Head.TheVariants.{Instruction}
+use Rattle.dsm_machine.specs.Processors.{Processor, wanting, after_answer, run_on, new_processor}
 use Rattle.dsm_core.specs.Setups.{Setup, lay_in, who_at}
 use Rattle.dsm_core.specs.Clusters.{Cluster, Event, stays, start, answer, act_in, moved, after_loose, after_all_loose}
 use Rattle.dsm_core.specs.Stopping.{TellsAll, HasToldAll, StopWordNames, EveryStopIsTold, EveryStoppedIsTold}

@@ -17,11 +17,15 @@ use Rattle.dsm_sync.specs.Counting.{count_of}
 use Rattle.dsm_sync.specs.Locks.{take_script}
 use Rattle.dsm_sync.specs.declared.counter.Counter.{Counter}
 use Rattle.dsm_sync.specs.declared.counter.Counter.TheVariants.{Barrier, Flag, Close}
-use Rattle.dsm_core.specs.Ends.{Ending, Plain, NotHeld, Halted, Trapped, Spent, Looked, Stopped, NoMemory}
-use Rattle.dsm_core.specs.Own.{Own, Who, setting_of, open_pass}
-use Rattle.dsm_core.specs.Jobs.{Job, Make, Again, Mark, Ask, Begin, Ended, Head, Instruction, Locking, Looking, own_after, call}
-use Rattle.dsm_core.specs.Steps.{action_job, instruction_job, unlock_job, stop_job, head_job, unready_job, heed_job, look_job, lock_job, arrive_job, set_job, is_last, passed_job, tried_job, looked_job}
-use Rattle.dsm_core.specs.Processors.{settled, run_on}
+use Rattle.dsm_machine.specs.declared.ending.Ending.{Ending}
+use Rattle.dsm_machine.specs.declared.ending.Ending.TheVariants.{Halted, Trapped, Spent, Looked, Stopped, NoMemory}
+use Rattle.dsm_machine.specs.declared.ending.Fault.TheVariants.{Plain, NotHeld}
+use Rattle.dsm_machine.specs.Own.{Own, Who, setting_of, open_pass}
+use Rattle.dsm_machine.specs.Jobs.{Job, Make, Again, Mark, Ask, Begin, Ended, own_after, call}
+use Rattle.dsm_machine.specs.declared.head.Head.{Head}
+use Rattle.dsm_machine.specs.declared.head.Head.TheVariants.{Instruction, Locking, Looking}
+use Rattle.dsm_machine.specs.Steps.{action_job, instruction_job, unlock_job, stop_job, head_job, unready_job, heed_job, look_job, lock_job, arrive_job, set_job, is_last, passed_job, tried_job, looked_job}
+use Rattle.dsm_machine.specs.Processors.{settled, run_on}
 use Rattle.dsm_core.specs.Stopping.{TellsAll}
 
 -- the one change of the stop word is the last operation, with which processor p ends and tells all others

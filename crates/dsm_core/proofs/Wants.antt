@@ -15,11 +15,14 @@ use Rattle.dsm_sync.specs.Counting.{count_of}
 use Rattle.dsm_sync.specs.Locks.{take_script}
 use Rattle.dsm_sync.specs.declared.counter.Counter.{Counter}
 use Rattle.dsm_sync.specs.declared.counter.Counter.TheVariants.{Barrier, Flag, Close}
-use Rattle.dsm_core.specs.Ends.{Ending, Spent, Looked, Stopped, NoMemory}
-use Rattle.dsm_core.specs.Own.{Own, Who, setting_of, open_pass, new_own}
-use Rattle.dsm_core.specs.Jobs.{Job, Make, Again, Mark, Ask, Begin, Ended, Head, Instruction, Locking, Looking, own_after, job_after, call, has_ended, end_of, held_turn}
-use Rattle.dsm_core.specs.Steps.{action_job, instruction_job, unlock_job, stop_job, head_job, unready_job, heed_job, look_job, lock_job, is_last, passed_job, tried_job, looked_job}
-use Rattle.dsm_core.specs.Processors.{Processor, settled, run_on, ending, after_answer, wanting, new_processor}
+use Rattle.dsm_machine.specs.declared.ending.Ending.{Ending}
+use Rattle.dsm_machine.specs.declared.ending.Ending.TheVariants.{Spent, Looked, Stopped, NoMemory}
+use Rattle.dsm_machine.specs.Own.{Own, Who, setting_of, open_pass, new_own}
+use Rattle.dsm_machine.specs.Jobs.{Job, Make, Again, Mark, Ask, Begin, Ended, own_after, job_after, call, has_ended, end_of, held_turn}
+use Rattle.dsm_machine.specs.declared.head.Head.{Head}
+use Rattle.dsm_machine.specs.declared.head.Head.TheVariants.{Instruction, Locking, Looking}
+use Rattle.dsm_machine.specs.Steps.{action_job, instruction_job, unlock_job, stop_job, head_job, unready_job, heed_job, look_job, lock_job, is_last, passed_job, tried_job, looked_job}
+use Rattle.dsm_machine.specs.Processors.{Processor, settled, run_on, ending, after_answer, wanting, new_processor}
 use Rattle.dsm_words.specs.Words.{reply}
 use Rattle.dsm_core.specs.Setups.{Setup, lay_in, who_at}
 use Rattle.dsm_core.specs.Clusters.{Cluster, Event, stays, start, answer, act_in, moved, after_event, after, is_defined, all_defined, reached}

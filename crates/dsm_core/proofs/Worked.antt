@@ -2,7 +2,7 @@
 use Rattle.std.proofs.Common.{refl}
 use Rattle.dsm_words.specs.Words.{word, done, reply}
 use Rattle.dsm_core.specs.Clusters.{start, reached, after, after_loose, after_all_loose, all_defined}
-use Rattle.dsm_core.specs.Processors.{processor_of}
+use Rattle.dsm_machine.specs.Processors.{processor_of}
 use Rattle.dsm_core.specs.Examples.{Arrives, Halts, NearlyHalts, StoresAndLoads, LocksInTurn, LockWordCounts, LooksAtALock, MeetTwice, PassesAtTheThirdLook, BothLook, StoppedByATrap, TrapsAtOnce, UnlocksOnce, StoppedByAStarved, SpendsTwo, NoneBehindTheEnd, LoadsLoosely, IsWhatItWasGiven, Starts}
 
 pub arrives : Arrives

@@ -6,11 +6,13 @@ use Rattle.dsm_isa.specs.declared.instr.Instr.TheVariants.{Lock, Unlock, Bar, Se
 use Rattle.dsm_local.specs.declared.action.Action.{Action}
 use Rattle.dsm_local.specs.declared.action.Action.TheVariants.{Set, Jump, LoadWord, StoreWord, Print, Trap, Spend, Arrive}
 use Rattle.dsm_local.specs.Actions.{action_of}
-use Rattle.dsm_core.specs.Own.{Own, Who, setting_of, open_pass, new_own}
-use Rattle.dsm_core.specs.Jobs.{Job, Make, Again, Mark, Ask, Begin, Ended, Head, Instruction, Locking, Looking, own_after, job_after, is_ready}
-use Rattle.dsm_core.specs.Steps.{action_job, instruction_job, unlock_job, stop_job, head_job}
-use Rattle.dsm_core.specs.Ends.{Spent}
-use Rattle.dsm_core.specs.Processors.{settled, run_on, wanting, processor_of}
+use Rattle.dsm_machine.specs.Own.{Own, Who, setting_of, open_pass, new_own}
+use Rattle.dsm_machine.specs.Jobs.{Job, Make, Again, Mark, Ask, Begin, Ended, own_after, job_after, is_ready}
+use Rattle.dsm_machine.specs.Steps.{action_job, instruction_job, unlock_job, stop_job, head_job}
+use Rattle.dsm_machine.specs.declared.ending.Ending.TheVariants.{Spent}
+use Rattle.dsm_machine.specs.declared.head.Head.{Head}
+use Rattle.dsm_machine.specs.declared.head.Head.TheVariants.{Instruction, Locking, Looking}
+use Rattle.dsm_machine.specs.Processors.{settled, run_on, wanting, processor_of}
 use Rattle.dsm_core.specs.Laws.{EveryProcessorIsReady}
 
 module _ (u : Who) where

@@ -10,9 +10,10 @@ use Rattle.dsm_words.specs.declared.op.Op.TheVariants.{Load as LoadAt, Exchange}
 use Rattle.dsm_words.specs.declared.item.Item.TheVariants.{Stop, Frame, Notice, Clock, Turn, Lock as LockWord}
 use Rattle.dsm_words.specs.Place.{total}
 use Rattle.dsm_words.specs.Words.{word}
-use Rattle.dsm_core.specs.Ends.{Plain, NotHeld, Halted, Trapped, Spent, Looked, Stopped, NoMemory}
-use Rattle.dsm_core.specs.Own.{no_counts}
-use Rattle.dsm_core.specs.Processors.{Given, next_op, ending, processor_of}
+use Rattle.dsm_machine.specs.declared.ending.Ending.TheVariants.{Halted, Trapped, Spent, Looked, Stopped, NoMemory}
+use Rattle.dsm_machine.specs.declared.ending.Fault.TheVariants.{Plain, NotHeld}
+use Rattle.dsm_machine.specs.Own.{no_counts}
+use Rattle.dsm_machine.specs.Processors.{Given, next_op, ending, processor_of}
 use Rattle.dsm_core.specs.Setups.{Setup, lay_in, who_at, first_words}
 use Rattle.dsm_core.specs.Clusters.{Event, start, after_all_loose, all_defined, reached}
 use Rattle.dsm_core.specs.Outcomes.{Outcome}

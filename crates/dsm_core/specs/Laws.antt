@@ -5,9 +5,9 @@ use Rattle.dsm_words.specs.declared.item.Item.{Item}
 use Rattle.dsm_words.specs.Script.{item_of}
 use Rattle.dsm_words.specs.Words.{word}
 use Rattle.dsm_isa.specs.declared.instr.Instr.{Instr}
-use Rattle.dsm_core.specs.Own.{Who}
-use Rattle.dsm_core.specs.Jobs.{is_ready}
-use Rattle.dsm_core.specs.Processors.{Processor, Given, processor_of}
+use Rattle.dsm_machine.specs.Own.{Who}
+use Rattle.dsm_machine.specs.Jobs.{is_ready}
+use Rattle.dsm_machine.specs.Processors.{Processor, Given, processor_of}
 use Rattle.dsm_core.specs.Setups.{Setup, lay_in, who_at, first_value}
 use Rattle.dsm_core.specs.Clusters.{Cluster, Event, start, act_in, exactly, after_loose, after_all_loose, after}
 

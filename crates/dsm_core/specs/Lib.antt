@@ -1,12 +1,7 @@
 pub mod Clusters
-pub mod Ends
 pub mod Examples
-pub mod Jobs
 pub mod Laws
 pub mod Outcomes
-pub mod Own
-pub mod Processors
 pub mod Setups
-pub mod Steps
 pub mod Stopping
 pub mod Wanting

@@ -4,9 +4,9 @@ use Rattle.dsm_entry.specs.declared.entry.Entry.{Entry}
 use Rattle.dsm_words.specs.declared.item.Item.{Item}
 use Rattle.dsm_words.specs.declared.item.Item.TheVariants.{Frame}
 use Rattle.dsm_words.specs.Words.{word}
-use Rattle.dsm_core.specs.Ends.{Ending}
-use Rattle.dsm_core.specs.Own.{Counts}
-use Rattle.dsm_core.specs.Processors.{Processor, ending}
+use Rattle.dsm_machine.specs.declared.ending.Ending.{Ending}
+use Rattle.dsm_machine.specs.declared.counts.Counts.{Counts}
+use Rattle.dsm_machine.specs.Processors.{Processor, ending}
 use Rattle.dsm_core.specs.Setups.{Setup, lay_in, addresses, home_of}
 use Rattle.dsm_core.specs.Clusters.{Cluster, Event, AreDefined, reached}
 

@@ -5,7 +5,8 @@ use Rattle.dsm_isa.specs.ProgramText.{ProgramText}
 use Rattle.dsm_words.specs.declared.item.Item.{Item}
 use Rattle.dsm_words.specs.declared.item.Item.TheVariants.{Frame, Clock}
 use Rattle.dsm_words.specs.Place.{Lay, sizes, start, total}
-use Rattle.dsm_core.specs.Own.{Limits, Who}
+use Rattle.dsm_machine.specs.declared.limits.Limits.{Limits}
+use Rattle.dsm_machine.specs.Own.{Who}
 
 -- the program, the nodes, the processors of each, and the limits of each processor
 pub record Setup : Type 0 where

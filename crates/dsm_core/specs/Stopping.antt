@@ -2,9 +2,10 @@
 use Rattle.std.specs.Prelude.{◌≡◌, ◌⊎◌, ℕ, ◌+◌, ◌*◌, ◌<◌, ◌^◌, List, Option, Some, slice_get}
 use Rattle.dsm_words.specs.declared.item.Item.TheVariants.{Stop}
 use Rattle.dsm_words.specs.Words.{word}
-use Rattle.dsm_core.specs.Ends.{Ending, Halted, Trapped, Spent, Looked, Stopped, NoMemory}
-use Rattle.dsm_core.specs.Jobs.{Ended}
-use Rattle.dsm_core.specs.Processors.{Processor, ending}
+use Rattle.dsm_machine.specs.declared.ending.Ending.{Ending}
+use Rattle.dsm_machine.specs.declared.ending.Ending.TheVariants.{Halted, Trapped, Spent, Looked, Stopped, NoMemory}
+use Rattle.dsm_machine.specs.Jobs.{Ended}
+use Rattle.dsm_machine.specs.Processors.{Processor, ending}
 use Rattle.dsm_core.specs.Setups.{Setup, lay_in}
 use Rattle.dsm_core.specs.Clusters.{Cluster, Event, start, after_all_loose}
 

@@ -1,7 +1,7 @@
 -- Who ended for want of memory.
 use Rattle.std.specs.Prelude.{◌≡◌, ◌↔◌, ℕ, true, List, Some, Contains, slice_get}
-use Rattle.dsm_core.specs.Ends.{NoMemory}
-use Rattle.dsm_core.specs.Processors.{Processor, ending}
+use Rattle.dsm_machine.specs.declared.ending.Ending.TheVariants.{NoMemory}
+use Rattle.dsm_machine.specs.Processors.{Processor, ending}
 use Rattle.dsm_core.specs.Setups.{Setup}
 use Rattle.dsm_core.specs.Clusters.{Event, AreDefined, reached}
 

@@ -1,1 +1,5 @@
+pub mod Causes
+pub mod Musts
 pub mod Reading
+pub mod Settling
+pub mod Turns

@@ -1,3 +1,10 @@
+pub mod Ends
+pub mod Jobs
 pub mod Laws
+pub mod Machines
+pub mod Own
+pub mod Points
 pub mod Processor
+pub mod Processors
 pub mod Seen
+pub mod Steps

@@ -1,6 +1,27 @@
+ghost use Rattle.dsm_machine.specs.Ends.{EveryEndHasItsCause, SpentEnds, TrapsEnd, UnheldUnlocksEnd, LastLooksEnd, StoppedWaitsEnd, ClosingPassesEnd, StarvedEnds};
 ghost use Rattle.dsm_machine.specs.Laws.{EveryTraceIsLocal};
 
 /// Whatever a processor is answered, its trace is what a plain sequential reader of the code does.
 pub fn locality_law()
     ensures { EveryTraceIsLocal }
+{}
+
+/// Each end of a processor comes exactly where its cause is. It does nothing: its clauses are what it is for.
+pub fn end_law()
+    // A processor ends by an event alone that has the end's cause.
+    ensures causes { EveryEndHasItsCause }
+    // And each cause ends it: no further instruction,
+    ensures spent { SpentEnds }
+    // an instruction that can't be done,
+    ensures trapped { TrapsEnd }
+    // an unlock without a lock,
+    ensures not_held { UnheldUnlocksEnd }
+    // the last look,
+    ensures looked { LastLooksEnd }
+    // the stop word,
+    ensures stopped { StoppedWaitsEnd }
+    // the pass of the closing barrier,
+    ensures halted { ClosingPassesEnd }
+    // and want of memory.
+    ensures starved { StarvedEnds }
 {}

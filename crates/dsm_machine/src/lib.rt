@@ -1,8 +1,13 @@
 // One processor as a machine: its next operation, and how an answer changes it.
 #![tactic(auto)]
 
+pub mod counts;
+pub mod ending;
+pub mod head;
 pub mod law;
 pub mod limits;
 pub mod machine;
+pub mod point;
+pub mod processor;
 #[cfg(test)]
 mod tests;

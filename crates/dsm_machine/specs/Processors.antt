@@ -3,10 +3,11 @@ use Rattle.std.specs.Prelude.{ℕ, Bool, true, false, List, [], ◌∷◌, Optio
 use Rattle.dsm_isa.specs.declared.instr.Instr.{Instr}
 use Rattle.dsm_words.specs.declared.op.Op.{Op}
 use Rattle.dsm_words.specs.Script.{op_of}
-use Rattle.dsm_core.specs.Ends.{Ending}
-use Rattle.dsm_core.specs.Own.{Own, Who, new_own}
-use Rattle.dsm_core.specs.Jobs.{Job, Make, Again, Mark, Ask, Begin, Ended, Instruction, own_after, first_act, job_after, end_of, has_ended}
-use Rattle.dsm_core.specs.Steps.{head_job, starved_job}
+use Rattle.dsm_machine.specs.declared.head.Head.TheVariants.{Instruction}
+use Rattle.dsm_machine.specs.declared.ending.Ending.{Ending}
+use Rattle.dsm_machine.specs.Own.{Own, Who, new_own}
+use Rattle.dsm_machine.specs.Jobs.{Job, Make, Again, Mark, Ask, Begin, Ended, own_after, first_act, job_after, end_of, has_ended}
+use Rattle.dsm_machine.specs.Steps.{head_job, starved_job}
 
 -- a processor: what it holds, and what it still has to do
 pub record Processor : Type 0 where

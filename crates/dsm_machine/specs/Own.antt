@@ -1,4 +1,4 @@
--- What one processor is told, and what it holds. This file and Ends, Jobs, Steps and Processors speak of one processor: they go to specs/ of dsm_machine with its code.
+-- What one processor is told, and what it holds.
 use Rattle.std.specs.Prelude.{ℕ, ◌+◌, ◌*◌, ◌/◌, ◌%◌, ◌^◌, Bool, false, List, [], ◌∷◌, ◌++◌, Option, None, Some, replicate, slice_get, slice_set, option_and_then}
 use Rattle.dsm_entry.specs.declared.entry.Entry.{Entry}
 use Rattle.dsm_entry.specs.declared.entry.Entry.TheVariants.{Signal, Pass}
@@ -7,11 +7,8 @@ use Rattle.dsm_local.specs.declared.reader.Reader.{Reader}
 use Rattle.dsm_local.specs.declared.setting.Setting.{Setting}
 use Rattle.dsm_local.specs.Readers.{new_reader}
 use Rattle.dsm_words.specs.Place.{Lay, processors}
-
--- the most instructions that a processor does, and the number of its unready look that is the last one allowed, if any is
-pub record Limits : Type 0 where
-  pub turns : ℕ
-  pub looks : Option ℕ
+use Rattle.dsm_machine.specs.declared.counts.Counts.{Counts}
+use Rattle.dsm_machine.specs.declared.limits.Limits.{Limits}
 
 -- who works: the layout, its number, the limits
 pub record Who : Type 0 where
@@ -27,22 +24,7 @@ node_of u = u.p / u.lay.procs
 abbrev pub setting_of : Who → Setting
 setting_of u = record { size = u.lay.pages * u.lay.words; p = u.p; procs = processors u.lay; turns = u.limits.turns }
 
--- how often each thing happened, modulo 2^64
-pub record Counts : Type 0 where
-  pub read_faults : ℕ
-  pub write_faults : ℕ
-  pub overwrites : ℕ
-  pub merges : ℕ
-  pub twins : ℕ
-  pub flushes : ℕ
-  pub early : ℕ
-  pub notices : ℕ
-  pub unmaps : ℕ
-  pub enters : ℕ
-  pub breaks : ℕ
-  pub unready : ℕ
-
--- nothing happened
+-- nothing has happened yet
 abbrev pub no_counts : Counts
 no_counts = record { read_faults = 0; write_faults = 0; overwrites = 0; merges = 0; twins = 0; flushes = 0; early = 0; notices = 0; unmaps = 0; enters = 0; breaks = 0; unready = 0 }
 

@@ -18,9 +18,13 @@ use Rattle.dsm_sync.specs.declared.got.Got.{Got}
 use Rattle.dsm_sync.specs.declared.got.Got.TheVariants.{Ready, Unready}
 use Rattle.dsm_sync.specs.Counting.{look_script, signal_script}
 use Rattle.dsm_sync.specs.Locks.{lock_script, unlock_script}
-use Rattle.dsm_core.specs.Ends.{Ending, Plain, NotHeld, Halted, Trapped, Spent, Looked, Stopped, NoMemory}
-use Rattle.dsm_core.specs.Own.{Own, Who, node_of, setting_of, open_pass}
-use Rattle.dsm_core.specs.Jobs.{Job, Make, Mark, Ask, Begin, Ended, Give, Go, Move, Append, Count_unready, Head, Instruction, Locking, Looking, call}
+use Rattle.dsm_machine.specs.declared.ending.Ending.{Ending}
+use Rattle.dsm_machine.specs.declared.ending.Ending.TheVariants.{Halted, Trapped, Spent, Looked, Stopped, NoMemory}
+use Rattle.dsm_machine.specs.declared.ending.Fault.TheVariants.{Plain, NotHeld}
+use Rattle.dsm_machine.specs.declared.head.Head.{Head}
+use Rattle.dsm_machine.specs.declared.head.Head.TheVariants.{Instruction, Locking, Looking}
+use Rattle.dsm_machine.specs.Own.{Own, Who, node_of, setting_of, open_pass}
+use Rattle.dsm_machine.specs.Jobs.{Job, Make, Mark, Ask, Begin, Ended, Give, Go, Move, Append, Count_unready, call}
 
 -- the instruction is done, and the next one begins
 abbrev pub next_instruction : Job

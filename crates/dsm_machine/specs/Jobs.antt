@@ -6,9 +6,9 @@ use Rattle.dsm_words.specs.Script.{Act, Get, Put, Script, End, Do, Until}
 use Rattle.dsm_clock.specs.declared.turns.TurnId.{TurnId}
 use Rattle.dsm_clock.specs.declared.turns.TurnId.TheVariants.{Page, Notices}
 use Rattle.dsm_local.specs.Readers.{given, jumped, moved}
-use Rattle.dsm_sync.specs.declared.counter.Counter.{Counter}
-use Rattle.dsm_core.specs.Ends.{Ending}
-use Rattle.dsm_core.specs.Own.{Own, new_own, appended, looked_again}
+use Rattle.dsm_machine.specs.declared.ending.Ending.{Ending}
+use Rattle.dsm_machine.specs.declared.head.Head.{Head}
+use Rattle.dsm_machine.specs.Own.{Own, new_own, appended, looked_again}
 
 -- a change of what it holds, which ends an instruction (with v in register d; at place `to`; at the next place), or appends an entry, or counts an unready look
 pub data Note : Type 0 where
@@ -25,12 +25,6 @@ own_after o (Go to) = record o { reader = jumped o.reader to }
 own_after o Move = record o { reader = moved o.reader }
 own_after o (Append e) = appended o e
 own_after o Count_unready = looked_again o
-
--- where it goes round: the instruction at its reader's place begins, lock l is tried, or an object is looked at until it has had `need` signals
-pub data Head : Type 0 where
-  Instruction : Head
-  Locking : ℕ → Head
-  Looking : Counter → ℕ → Head
 
 -- a job: an operation and what follows its answer; an operation until it has the wanted answer; a change of what it holds and a look at what it holds then, both in the event of the operation before them; a head; the end
 pub data Job : Type 0 where

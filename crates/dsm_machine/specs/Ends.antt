@@ -1,0 +1,102 @@
+-- The table of ends: which end comes where.
+use Rattle.std.specs.Prelude.{◌≡◌, ◌≢◌, ℕ, ◌+◌, ◌-◌, ◌%◌, ◌^◌, ◌<◌, ◌≤◌, true, List, [], ◌∷◌, ◌++◌, None, Some, slice_get}
+use Rattle.dsm_entry.specs.declared.entry.Entry.{Entry}
+use Rattle.dsm_entry.specs.declared.entry.Entry.TheVariants.{Pass}
+use Rattle.dsm_entry.specs.declared.entry.Obj.TheVariants.{Close}
+use Rattle.dsm_isa.specs.declared.instr.Instr.{Instr}
+use Rattle.dsm_isa.specs.declared.instr.Instr.TheVariants.{Unlock}
+use Rattle.dsm_local.specs.declared.action.Action.TheVariants.{Trap}
+use Rattle.dsm_local.specs.declared.end.Trap.{Trap as Kind}
+use Rattle.dsm_local.specs.declared.end.Trap.TheVariants.{Later}
+use Rattle.dsm_local.specs.Actions.{action_of}
+use Rattle.dsm_words.specs.declared.item.Item.TheVariants.{Stop}
+use Rattle.dsm_words.specs.Script.{Act, Get, Change}
+use Rattle.dsm_sync.specs.declared.counter.Counter.TheVariants.{Close as CloseWord}
+use Rattle.dsm_machine.specs.declared.ending.Ending.{Ending}
+use Rattle.dsm_machine.specs.declared.ending.Ending.TheVariants.{Halted, Trapped, Spent, Looked, Stopped, NoMemory}
+use Rattle.dsm_machine.specs.declared.ending.Fault.TheVariants.{Plain, NotHeld}
+use Rattle.dsm_machine.specs.declared.head.Head.{Head}
+use Rattle.dsm_machine.specs.declared.head.Head.TheVariants.{Instruction}
+use Rattle.dsm_machine.specs.Own.{Own, Who, setting_of, open_pass, appended, looked_again}
+use Rattle.dsm_machine.specs.Jobs.{Make, Begin, Ended, first_act}
+use Rattle.dsm_machine.specs.Steps.{heed_job, unready_job, look_job}
+use Rattle.dsm_machine.specs.Processors.{Processor, Given, settled, begun, ending, wanting, after_answer, after_given, processor_of}
+
+-- its last entry is the pass of the closing barrier
+abbrev pub HasPassed : List Entry → Type 0
+HasPassed trace = (before : List Entry) × (c : ℕ) × (trace ≡ before ++ Pass Close c ∷ [])
+
+-- the operation tells all others to stop, unless another did
+abbrev pub TellsToStop : Who → Act → Type 0
+TellsToStop u a = a ≡ Change Stop 0 (u.p + 1)
+
+-- it stands at this place, and may do a further instruction
+abbrev pub StandsAt : Who → Own → ℕ → Type 0
+StandsAt u o place = (place ≡ o.reader.place) × (o.reader.done < u.limits.turns)
+
+-- why the event that makes operation a, given this, leaves a processor that holds o with this end
+abbrev pub Cause : Who → List Instr → Own → Act → Given → Ending → Type 0
+Cause u code o a g Halted = HasPassed o.trace
+Cause u code o a g (Trapped place (Plain kind)) = TellsToStop u a × StandsAt u o place × (action_of (setting_of u) o.reader (slice_get code o.reader.place) ≡ Trap kind)
+Cause u code o a g (Trapped place (NotHeld l)) = TellsToStop u a × StandsAt u o place × (slice_get code o.reader.place ≡ Some (Unlock l)) × (open_pass o l ≡ None)
+Cause u code o a g Spent = TellsToStop u a × (u.limits.turns ≤ o.reader.done)
+Cause u code o a g Looked = TellsToStop u a × (u.limits.looks ≡ Some o.counts.unready)
+Cause u code o a g (Stopped by) = (a ≡ Get Stop) × (0 < g.got) × (by ≡ (g.got - 1) % 2 ^ 32)
+Cause u code o a g NoMemory = TellsToStop u a × (g.starved ≡ true)
+
+-- whatever a processor was given, it ends by an event alone that is such a cause
+abbrev pub EveryEndHasItsCause : Type 0
+EveryEndHasItsCause = (u : Who) (code : List Instr) (gs : List Given) (g : Given) (e : Ending)
+    → ending (processor_of u code gs) ≡ None
+    → ending (after_given u code (processor_of u code gs) g) ≡ Some e
+    → Cause u code (after_given u code (processor_of u code gs) g).own (first_act (wanting u g.starved (processor_of u code gs)).todo) g e
+
+-- a processor that holds o and has ended
+abbrev pub over : Own → Ending → Processor
+over o e = record { own = o; todo = Ended e }
+
+-- an instruction begins, and its first operation has this answer
+abbrev pub begins : Who → List Instr → Own → ℕ → Processor
+begins u code o got = after_answer u code (begun u code o (Begin Instruction)) got
+
+-- where it has done as many instructions as it may, it is spent; this is looked at first
+abbrev pub SpentEnds : Type 0
+SpentEnds = (u : Who) (code : List Instr) (o : Own) (got : ℕ) → u.limits.turns ≤ o.reader.done → begins u code o got ≡ over o Spent
+
+-- it traps where a plain reader does, at whatever that reader can't do
+abbrev pub TrapsEnd : Type 0
+TrapsEnd = (u : Who) (code : List Instr) (o : Own) (got : ℕ) (kind : Kind)
+    → o.reader.done < u.limits.turns
+    → action_of (setting_of u) o.reader (slice_get code o.reader.place) ≡ Trap kind
+    → kind ≢ Later
+    → begins u code o got ≡ over o (Trapped o.reader.place (Plain kind))
+
+-- and at an unlock of a lock of which it has no open pass
+abbrev pub UnheldUnlocksEnd : Type 0
+UnheldUnlocksEnd = (u : Who) (code : List Instr) (o : Own) (got l : ℕ)
+    → o.reader.done < u.limits.turns
+    → slice_get code o.reader.place ≡ Some (Unlock l)
+    → open_pass o l ≡ None
+    → begins u code o got ≡ over o (Trapped o.reader.place (NotHeld l))
+
+-- the last unready look that is allowed ends it, and then the stop word is not loaded
+abbrev pub LastLooksEnd : Type 0
+LastLooksEnd = (u : Who) (code : List Instr) (o : Own) (again : Head) (got : ℕ)
+    → u.limits.looks ≡ Some (looked_again o).counts.unready
+    → after_answer u code (settled o (unready_job u again)) got ≡ over (looked_again o) Looked
+
+-- where the stop word is not 0 behind an unready look, it is stopped
+abbrev pub StoppedWaitsEnd : Type 0
+StoppedWaitsEnd = (u : Who) (code : List Instr) (o : Own) (again : Head) (got : ℕ)
+    → 0 < got
+    → after_answer u code (record { own = o; todo = Make (Get Stop) (heed_job again) }) got ≡ over o (Stopped ((got - 1) % 2 ^ 32))
+
+-- the pass of the closing barrier ends it
+abbrev pub ClosingPassesEnd : Type 0
+ClosingPassesEnd = (u : Who) (code : List Instr) (o : Own) (need got : ℕ)
+    → need ≤ got
+    → after_answer u code (record { own = o; todo = look_job u CloseWord need }) got ≡ over (appended o (Pass Close need)) Halted
+
+-- and want of memory does
+abbrev pub StarvedEnds : Type 0
+StarvedEnds = (u : Who) (code : List Instr) (m : Processor) (got : ℕ) → after_given u code m (record { starved = true; got = got }) ≡ over m.own NoMemory
