@@ -10,8 +10,8 @@ use Rattle.dsm_words.specs.Place.{Lay, place, total}
 use Rattle.dsm_words.specs.Script.{Act, Get, Put, Swap, Change, Add, Or, item_of}
 use Rattle.dsm_words.specs.Words.{word, done, reply}
 use Rattle.dsm_words.proofs.WordLaws.{length-done}
-use Rattle.dsm_machine.specs.declared.ending.Ending.{Ending}
-use Rattle.dsm_machine.specs.declared.ending.Ending.TheVariants.{Stopped, NoMemory}
+use Rattle.dsm_local.specs.declared.end.End.{End as Ending}
+use Rattle.dsm_local.specs.declared.end.End.TheVariants.{Stopped, NoMemory}
 use Rattle.dsm_machine.specs.Own.{Who, new_own}
 use Rattle.dsm_machine.specs.Jobs.{Job, Make, Again, Mark, Ask, Begin, Ended, first_act, job_after, has_ended, end_of, held_turn, is_ready}
 use Rattle.dsm_machine.specs.declared.head.Head.TheVariants.{Instruction}

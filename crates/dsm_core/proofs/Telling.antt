@@ -1,12 +1,11 @@
 -- What a job may do with the stop word.
 use Rattle.std.proofs.Common.{◌≡◌, ◌≢◌, ℕ, ◌+◌, ◌-◌, ◌/◌, ◌%◌, ◌^◌, Bool, true, false, List, Option, Some, None, refl, if◌then◌else◌, ◌==◌}
-use Rattle.std.specs.Prelude.{slice_get, nat_lt, nat_le}
+use Rattle.std.specs.Prelude.{nat_le}
 use Rattle.std.proofs.lemmas.Bool.{eqb-false}
 use Rattle.dsm_isa.specs.declared.instr.Instr.{Instr}
-use Rattle.dsm_isa.specs.declared.instr.Instr.TheVariants.{Lock, Unlock, Bar, Set as SetFlag, Wait, Waitr}
 use Rattle.dsm_local.specs.declared.action.Action.{Action}
-use Rattle.dsm_local.specs.declared.action.Action.TheVariants.{Set, Jump, LoadWord, StoreWord, Print, Trap, Spend, Arrive}
-use Rattle.dsm_local.specs.Actions.{value, action_of}
+use Rattle.dsm_local.specs.declared.action.Action.TheVariants.{Set, Jump, LoadWord, StoreWord, Print, TakeLock, GiveLock, Meet, RaiseFlag, WaitFlag, Trap, Spend, Arrive}
+use Rattle.dsm_local.specs.Readers.{next_action}
 use Rattle.dsm_words.specs.declared.item.Item.TheVariants.{Stop}
 use Rattle.dsm_words.specs.Script.{Act, Get, Change, item_of}
 use Rattle.dsm_words.specs.Script.{End}
@@ -17,14 +16,13 @@ use Rattle.dsm_sync.specs.Counting.{count_of}
 use Rattle.dsm_sync.specs.Locks.{take_script}
 use Rattle.dsm_sync.specs.declared.counter.Counter.{Counter}
 use Rattle.dsm_sync.specs.declared.counter.Counter.TheVariants.{Barrier, Flag, Close}
-use Rattle.dsm_machine.specs.declared.ending.Ending.{Ending}
-use Rattle.dsm_machine.specs.declared.ending.Ending.TheVariants.{Halted, Trapped, Spent, Looked, Stopped, NoMemory}
-use Rattle.dsm_machine.specs.declared.ending.Fault.TheVariants.{Plain, NotHeld}
-use Rattle.dsm_machine.specs.Own.{Own, Who, setting_of, open_pass}
+use Rattle.dsm_local.specs.declared.end.End.{End as Ending}
+use Rattle.dsm_local.specs.declared.end.End.TheVariants.{Halted, Trapped, Spent, Looked, Stopped, NoMemory}
+use Rattle.dsm_machine.specs.Own.{Own, Who, setting_of}
 use Rattle.dsm_machine.specs.Jobs.{Job, Make, Again, Mark, Ask, Begin, Ended, own_after, call}
 use Rattle.dsm_machine.specs.declared.head.Head.{Head}
 use Rattle.dsm_machine.specs.declared.head.Head.TheVariants.{Instruction, Locking, Looking}
-use Rattle.dsm_machine.specs.Steps.{action_job, instruction_job, unlock_job, stop_job, head_job, unready_job, heed_job, look_job, lock_job, arrive_job, set_job, is_last, passed_job, tried_job, looked_job}
+use Rattle.dsm_machine.specs.Steps.{action_job, stop_job, head_job, unready_job, heed_job, look_job, lock_job, arrive_job, set_job, is_last, passed_job, tried_job, looked_job}
 use Rattle.dsm_machine.specs.Processors.{settled, run_on}
 use Rattle.dsm_core.specs.Stopping.{TellsAll}
 
@@ -90,10 +88,6 @@ module _ (u : Who) where
       taken v true = (λ e. absurd (cc e), λ x. won v x (x == v))
       taken v false = tried_heeds None l Unready
 
-  unlock_heeds : (d : Option ℕ) (o : Own) (l : ℕ) (k : Option ℕ) → Heeds u.p d (unlock_job u o l k)
-  unlock_heeds d o l None = stop_heeds d (Trapped o.reader.place (NotHeld l)) tt
-  unlock_heeds d o l (Some k) = (λ e. absurd (cc e), λ x. tt)
-
   passed_heeds : (d : Option ℕ) (of : Counter) → Heeds u.p d (passed_job u of)
   passed_heeds d (Barrier b) = tt
   passed_heeds d (Flag f) = tt
@@ -125,25 +119,17 @@ module _ (u : Who) where
   action_heeds d o (LoadWord r w) = (tt, λ x. tt)
   action_heeds d o (StoreWord w v) = (λ e. absurd (cc e), λ x. tt)
   action_heeds d o (Print v) = (tt, λ x. tt)
-  action_heeds d o (Trap kind) = stop_heeds d (Trapped o.reader.place (Plain kind)) tt
+  action_heeds d o (TakeLock l) = lock_heeds d l
+  action_heeds d o (GiveLock l k) = (λ e. absurd (cc e), λ x. tt)
+  action_heeds d o (Meet b) = arrive_heeds d (Barrier b)
+  action_heeds d o (RaiseFlag f) = set_heeds d f
+  action_heeds d o (WaitFlag f need) = look_heeds d (Flag f) need
+  action_heeds d o (Trap kind) = stop_heeds d (Trapped o.reader.place kind) tt
   action_heeds d o Spend = stop_heeds d Spent tt
   action_heeds d o Arrive = arrive_heeds d Close
 
-  instruction_heeds : (d : Option ℕ) (o : Own) (i : Option Instr) → Heeds u.p d (instruction_job u o i)
-  instruction_heeds d o (Some (Lock l)) = lock_heeds d l
-  instruction_heeds d o (Some (Unlock l)) = unlock_heeds d o l (open_pass o l)
-  instruction_heeds d o (Some (Bar b)) = arrive_heeds d (Barrier b)
-  instruction_heeds d o (Some (SetFlag f)) = set_heeds d f
-  instruction_heeds d o (Some (Wait f k)) = look_heeds d (Flag f) k
-  instruction_heeds d o (Some (Waitr f a)) = look_heeds d (Flag f) (value o.reader a)
-  instruction_heeds d o i = action_heeds d o (action_of (setting_of u) o.reader i)
-
   head_heeds : (code : List Instr) (d : Option ℕ) (h : Head) → Heeds u.p d (head_job u code h)
-  head_heeds code d Instruction = λ o. go o (nat_lt o.reader.done u.limits.turns)
-    where
-      go : (o : Own) (b : Bool) → Heeds u.p d (if b then instruction_job u o (slice_get code o.reader.place) else stop_job u Spent)
-      go o true = instruction_heeds d o (slice_get code o.reader.place)
-      go o false = stop_heeds d Spent tt
+  head_heeds code d Instruction = λ o. action_heeds d o (next_action code (setting_of u) o.reader)
   head_heeds code d (Locking l) = lock_heeds d l
   head_heeds code d (Looking of need) = look_heeds d of need
 

@@ -1,12 +1,11 @@
 -- A processor ends for want of memory exactly where it was starved.
-use Rattle.std.proofs.Common.{◌≡◌, ◌⊎◌, inl, inr, ℕ, zero, suc, ◌+◌, ◌-◌, ◌*◌, ◌/◌, ◌%◌, ◌^◌, ◌<◌, ◌==◌, Bool, true, false, List, [], ◌∷◌, length, Option, Some, None, refl, sym, ap, ◌∙◌, subst, arith, if◌then◌else◌, ◌||◌}
-use Rattle.std.specs.Prelude.{slice_get, nat_lt, nat_le, Contains, is_some, slice_index_or}
+use Rattle.std.proofs.Common.{◌≡◌, ◌⊎◌, inl, inr, ℕ, zero, suc, ◌+◌, ◌-◌, ◌*◌, ◌/◌, ◌%◌, ◌^◌, ◌<◌, ◌==◌, Bool, true, false, List, [], ◌∷◌, length, Some, None, refl, sym, ap, ◌∙◌, subst, arith, if◌then◌else◌, ◌||◌}
+use Rattle.std.specs.Prelude.{slice_get, nat_le, Contains, is_some, slice_index_or}
 use Rattle.std.proofs.lemmas.Bool.{cases_eq}
 use Rattle.dsm_isa.specs.declared.instr.Instr.{Instr}
-use Rattle.dsm_isa.specs.declared.instr.Instr.TheVariants.{Lock, Unlock, Bar, Set as SetFlag, Wait, Waitr}
 use Rattle.dsm_local.specs.declared.action.Action.{Action}
-use Rattle.dsm_local.specs.declared.action.Action.TheVariants.{Set, Jump, LoadWord, StoreWord, Print, Trap, Spend, Arrive}
-use Rattle.dsm_local.specs.Actions.{value, action_of}
+use Rattle.dsm_local.specs.declared.action.Action.TheVariants.{Set, Jump, LoadWord, StoreWord, Print, TakeLock, GiveLock, Meet, RaiseFlag, WaitFlag, Trap, Spend, Arrive}
+use Rattle.dsm_local.specs.Readers.{next_action}
 use Rattle.dsm_words.specs.declared.item.Item.TheVariants.{Stop}
 use Rattle.dsm_words.specs.Script.{End, Get}
 use Rattle.dsm_sync.specs.declared.got.Got.{Got}
@@ -15,13 +14,13 @@ use Rattle.dsm_sync.specs.Counting.{count_of}
 use Rattle.dsm_sync.specs.Locks.{take_script}
 use Rattle.dsm_sync.specs.declared.counter.Counter.{Counter}
 use Rattle.dsm_sync.specs.declared.counter.Counter.TheVariants.{Barrier, Flag, Close}
-use Rattle.dsm_machine.specs.declared.ending.Ending.{Ending}
-use Rattle.dsm_machine.specs.declared.ending.Ending.TheVariants.{Spent, Looked, Stopped, NoMemory}
-use Rattle.dsm_machine.specs.Own.{Own, Who, setting_of, open_pass, new_own}
+use Rattle.dsm_local.specs.declared.end.End.{End as Ending}
+use Rattle.dsm_local.specs.declared.end.End.TheVariants.{Looked, Stopped, NoMemory}
+use Rattle.dsm_machine.specs.Own.{Own, Who, setting_of, new_own}
 use Rattle.dsm_machine.specs.Jobs.{Job, Make, Again, Mark, Ask, Begin, Ended, own_after, job_after, call, has_ended, end_of, held_turn}
 use Rattle.dsm_machine.specs.declared.head.Head.{Head}
 use Rattle.dsm_machine.specs.declared.head.Head.TheVariants.{Instruction, Locking, Looking}
-use Rattle.dsm_machine.specs.Steps.{action_job, instruction_job, unlock_job, stop_job, head_job, unready_job, heed_job, look_job, lock_job, is_last, passed_job, tried_job, looked_job}
+use Rattle.dsm_machine.specs.Steps.{action_job, stop_job, head_job, unready_job, heed_job, look_job, lock_job, is_last, passed_job, tried_job, looked_job}
 use Rattle.dsm_machine.specs.Processors.{Processor, settled, run_on, ending, after_answer, wanting, new_processor}
 use Rattle.dsm_words.specs.Words.{reply}
 use Rattle.dsm_core.specs.Setups.{Setup, lay_in, who_at}
@@ -70,10 +69,6 @@ module _ (u : Who) where
       taken true = λ x. won (x == v)
       taken false = unready_wants (Locking l)
 
-  unlock_wants : (o : Own) (l : ℕ) (k : Option ℕ) → WantsNothing (unlock_job u o l k)
-  unlock_wants o l None = λ x. tt
-  unlock_wants o l (Some k) = λ x. tt
-
   passed_wants : (of : Counter) → WantsNothing (passed_job u of)
   passed_wants (Barrier b) = tt
   passed_wants (Flag f) = tt
@@ -93,26 +88,18 @@ module _ (u : Who) where
     | LoadWord r w ↦ λ x. tt
     | StoreWord w v ↦ λ x. tt
     | Print v ↦ λ x. tt
+    | TakeLock l ↦ lock_wants l
+    | GiveLock l k ↦ λ x. tt
+    | Meet b ↦ λ x. tt
+    | RaiseFlag f ↦ λ x. tt
+    | WaitFlag f need ↦ look_wants (Flag f) need
     | Trap kind ↦ λ x. tt
     | Spend ↦ λ x. tt
     | Arrive ↦ λ x. tt
   ]
 
-  instruction_wants : (o : Own) (i : Option Instr) → WantsNothing (instruction_job u o i)
-  instruction_wants o (Some (Lock l)) = lock_wants l
-  instruction_wants o (Some (Unlock l)) = unlock_wants o l (open_pass o l)
-  instruction_wants o (Some (Bar b)) = λ a. tt
-  instruction_wants o (Some (SetFlag f)) = λ j. tt
-  instruction_wants o (Some (Wait f k)) = look_wants (Flag f) k
-  instruction_wants o (Some (Waitr f a)) = look_wants (Flag f) (value o.reader a)
-  instruction_wants o i = action_wants o (action_of (setting_of u) o.reader i)
-
   head_wants : (code : List Instr) (h : Head) → WantsNothing (head_job u code h)
-  head_wants code Instruction = λ o. go o (nat_lt o.reader.done u.limits.turns)
-    where
-      go : (o : Own) (b : Bool) → WantsNothing (if b then instruction_job u o (slice_get code o.reader.place) else stop_job u Spent)
-      go o true = instruction_wants o (slice_get code o.reader.place)
-      go o false = λ x. tt
+  head_wants code Instruction = λ o. action_wants o (next_action code (setting_of u) o.reader)
   head_wants code (Locking l) = lock_wants l
   head_wants code (Looking of need) = look_wants of need
 

@@ -1,15 +1,12 @@
 -- A processor that has not ended stands before an operation.
-use Rattle.std.proofs.Common.{◌≡◌, ℕ, Bool, true, false, List, [], ◌∷◌, Option, Some, None, refl, if◌then◌else◌}
-use Rattle.std.specs.Prelude.{slice_get, nat_lt}
+use Rattle.std.proofs.Common.{◌≡◌, true, List, [], ◌∷◌, refl}
 use Rattle.dsm_isa.specs.declared.instr.Instr.{Instr}
-use Rattle.dsm_isa.specs.declared.instr.Instr.TheVariants.{Lock, Unlock, Bar, Set as SetFlag, Wait, Waitr}
 use Rattle.dsm_local.specs.declared.action.Action.{Action}
-use Rattle.dsm_local.specs.declared.action.Action.TheVariants.{Set, Jump, LoadWord, StoreWord, Print, Trap, Spend, Arrive}
-use Rattle.dsm_local.specs.Actions.{action_of}
-use Rattle.dsm_machine.specs.Own.{Own, Who, setting_of, open_pass, new_own}
+use Rattle.dsm_local.specs.declared.action.Action.TheVariants.{Set, Jump, LoadWord, StoreWord, Print, TakeLock, GiveLock, Meet, RaiseFlag, WaitFlag, Trap, Spend, Arrive}
+use Rattle.dsm_local.specs.Readers.{next_action}
+use Rattle.dsm_machine.specs.Own.{Own, Who, setting_of, new_own}
 use Rattle.dsm_machine.specs.Jobs.{Job, Make, Again, Mark, Ask, Begin, Ended, own_after, job_after, is_ready}
-use Rattle.dsm_machine.specs.Steps.{action_job, instruction_job, unlock_job, stop_job, head_job}
-use Rattle.dsm_machine.specs.declared.ending.Ending.TheVariants.{Spent}
+use Rattle.dsm_machine.specs.Steps.{action_job, head_job}
 use Rattle.dsm_machine.specs.declared.head.Head.{Head}
 use Rattle.dsm_machine.specs.declared.head.Head.TheVariants.{Instruction, Locking, Looking}
 use Rattle.dsm_machine.specs.Processors.{settled, run_on, wanting, processor_of}
@@ -25,29 +22,17 @@ module _ (u : Who) where
   action_ready o p (LoadWord d w) = refl
   action_ready o p (StoreWord w v) = refl
   action_ready o p (Print v) = refl
+  action_ready o p (TakeLock l) = refl
+  action_ready o p (GiveLock l k) = refl
+  action_ready o p (Meet b) = refl
+  action_ready o p (RaiseFlag f) = refl
+  action_ready o p (WaitFlag f need) = refl
   action_ready o p (Trap kind) = refl
   action_ready o p Spend = refl
   action_ready o p Arrive = refl
 
-  unlock_ready : (o p : Own) (l : ℕ) (k : Option ℕ) → IsReady p (unlock_job u o l k)
-  unlock_ready o p l None = refl
-  unlock_ready o p l (Some k) = refl
-
-  instruction_ready : (o p : Own) (i : Option Instr) → IsReady p (instruction_job u o i)
-  instruction_ready o p (Some (Lock l)) = refl
-  instruction_ready o p (Some (Unlock l)) = unlock_ready o p l (open_pass o l)
-  instruction_ready o p (Some (Bar b)) = refl
-  instruction_ready o p (Some (SetFlag f)) = refl
-  instruction_ready o p (Some (Wait f k)) = refl
-  instruction_ready o p (Some (Waitr f a)) = refl
-  instruction_ready o p i = action_ready o p (action_of (setting_of u) o.reader i)
-
   head_ready : (code : List Instr) (o : Own) (h : Head) → IsReady o (head_job u code h)
-  head_ready code o Instruction = go (nat_lt o.reader.done u.limits.turns)
-    where
-      go : (b : Bool) → IsReady o (if b then instruction_job u o (slice_get code o.reader.place) else stop_job u Spent)
-      go true = instruction_ready o o (slice_get code o.reader.place)
-      go false = refl
+  head_ready code o Instruction = action_ready o o (next_action code (setting_of u) o.reader)
   head_ready code o (Locking l) = refl
   head_ready code o (Looking of need) = refl
 

@@ -5,13 +5,12 @@ use Rattle.dsm_entry.specs.declared.entry.Entry.TheVariants.{Load, Store, Signal
 use Rattle.dsm_entry.specs.declared.entry.Obj.TheVariants.{Lock as OfLock, Barrier as OfBarrier, Flag as OfFlag, Close as OfClose}
 use Rattle.dsm_isa.specs.declared.instr.Instr.{Instr}
 use Rattle.dsm_isa.specs.declared.instr.Instr.TheVariants.{Li, Me, Div, Addi, Ld, St, Jmp, Bne, Lock, Unlock, Bar, Set, Wait, Out as Print, Halt}
-use Rattle.dsm_local.specs.declared.end.Trap.TheVariants.{Address, DivideByZero}
+use Rattle.dsm_local.specs.declared.end.Trap.TheVariants.{Address, NotHeld, DivideByZero}
 use Rattle.dsm_words.specs.declared.op.Op.TheVariants.{Load as LoadAt, Exchange}
 use Rattle.dsm_words.specs.declared.item.Item.TheVariants.{Stop, Frame, Notice, Clock, Turn, Lock as LockWord}
 use Rattle.dsm_words.specs.Place.{total}
 use Rattle.dsm_words.specs.Words.{word}
-use Rattle.dsm_machine.specs.declared.ending.Ending.TheVariants.{Halted, Trapped, Spent, Looked, Stopped, NoMemory}
-use Rattle.dsm_machine.specs.declared.ending.Fault.TheVariants.{Plain, NotHeld}
+use Rattle.dsm_local.specs.declared.end.End.TheVariants.{Halted, Trapped, Spent, Looked, Stopped, NoMemory}
 use Rattle.dsm_machine.specs.Own.{no_counts}
 use Rattle.dsm_machine.specs.Processors.{Given, next_op, ending, processor_of}
 use Rattle.dsm_core.specs.Setups.{Setup, lay_in, who_at, first_words}
@@ -129,13 +128,13 @@ abbrev pub StoppedByATrap : Type 0
 StoppedByATrap =
     Outcome dividing (of_all (0 ∷ 1 ∷ 0 ∷ 1 ∷ 0 ∷ [])) (record { traces = [] ∷ [] ∷ []; ends = None ∷ None ∷ []; pages = 0 ∷ []; counts = record no_counts { unready = 1 } })
     × Outcome dividing (of_all (in_turn 3 ++ 0 ∷ []))
-    (record { traces = [] ∷ [] ∷ []; ends = Some (Stopped 1) ∷ Some (Trapped 3 (Plain DivideByZero)) ∷ []; pages = 0 ∷ []; counts = record no_counts { unready = 1 } })
+    (record { traces = [] ∷ [] ∷ []; ends = Some (Stopped 1) ∷ Some (Trapped 3 DivideByZero) ∷ []; pages = 0 ∷ []; counts = record no_counts { unready = 1 } })
     × (word (lay_in dividing) (reached dividing (of_all (in_turn 3))).words Stop ≡ 2)
 
 -- A load past the last word, and an unlock of a lock that is not held.
 abbrev pub TrapsAtOnce : Type 0
 TrapsAtOnce =
-    Outcome (node 1 4 (Ld 1 2 4 ∷ Halt ∷ [])) (of_all (0 ∷ [])) (record { traces = [] ∷ []; ends = Some (Trapped 0 (Plain (Address 4))) ∷ []; pages = 0 ∷ 0 ∷ 0 ∷ 0 ∷ []; counts = no_counts })
+    Outcome (node 1 4 (Ld 1 2 4 ∷ Halt ∷ [])) (of_all (0 ∷ [])) (record { traces = [] ∷ []; ends = Some (Trapped 0 (Address 4)) ∷ []; pages = 0 ∷ 0 ∷ 0 ∷ 0 ∷ []; counts = no_counts })
     × Outcome (node 1 1 (Unlock 0 ∷ Halt ∷ [])) (of_all (0 ∷ [])) (record { traces = [] ∷ []; ends = Some (Trapped 0 (NotHeld 0)) ∷ []; pages = 0 ∷ []; counts = no_counts })
 
 -- An unlock that was done forgets the pass: a second one is of a lock that is not held.

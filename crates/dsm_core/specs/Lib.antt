@@ -1,7 +1,10 @@
 pub mod Clusters
 pub mod Examples
 pub mod Laws
+pub mod Legality
 pub mod Outcomes
+pub mod Promises
 pub mod Setups
+pub mod States
 pub mod Stopping
 pub mod Wanting

@@ -1,10 +1,11 @@
 -- What a run leaves.
-use Rattle.std.specs.Prelude.{◌≡◌, ℕ, ◌/◌, ◌%◌, ◌^◌, List, map, sum_by, Option}
+use Rattle.std.specs.Prelude.{◌≡◌, ℕ, ◌/◌, ◌%◌, ◌^◌, List, map, sum_by, Option, Some, All, Contains}
 use Rattle.dsm_entry.specs.declared.entry.Entry.{Entry}
 use Rattle.dsm_words.specs.declared.item.Item.{Item}
 use Rattle.dsm_words.specs.declared.item.Item.TheVariants.{Frame}
 use Rattle.dsm_words.specs.Words.{word}
-use Rattle.dsm_machine.specs.declared.ending.Ending.{Ending}
+use Rattle.dsm_local.specs.declared.end.End.{End as Ending}
+use Rattle.dsm_local.specs.declared.end.End.TheVariants.{Halted, NoMemory}
 use Rattle.dsm_machine.specs.declared.counts.Counts.{Counts}
 use Rattle.dsm_machine.specs.Processors.{Processor, ending}
 use Rattle.dsm_core.specs.Setups.{Setup, lay_in, addresses, home_of}
@@ -16,6 +17,14 @@ pub record Ran : Type 0 where
   pub ends : List (Option Ending)
   pub pages : List ℕ
   pub counts : Counts
+
+-- every processor halted
+abbrev pub AllHalted : List (Option Ending) → Type 0
+AllHalted ends = All (λ e. e ≡ Some Halted) ends
+
+-- some processor ended for want of memory
+abbrev pub SomeWants : List (Option Ending) → Type 0
+SomeWants ends = Contains ends (Some NoMemory)
 
 -- the word of address w at the home of its page
 abbrev pub master : Setup → ℕ → Item

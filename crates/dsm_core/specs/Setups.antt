@@ -1,7 +1,10 @@
 -- What a run starts from.
-use Rattle.std.specs.Prelude.{ℕ, ◌+◌, ◌-◌, ◌*◌, ◌/◌, ◌%◌, ◌==◌, if◌then◌else◌, List, [], ◌∷◌, ◌++◌, map, flat_map, replicate}
+use Rattle.std.specs.Prelude.{ℕ, ◌+◌, ◌-◌, ◌*◌, ◌/◌, ◌%◌, ◌≤◌, ◌==◌, if◌then◌else◌, List, [], ◌∷◌, ◌++◌, map, flat_map, replicate}
 use Rattle.std.specs.List.{range_with_len}
 use Rattle.dsm_isa.specs.ProgramText.{ProgramText}
+use Rattle.dsm_isa.specs.Limits.{IsWithinLimits}
+use Rattle.dsm_isa.specs.Rules.{ObjectsInside}
+use Rattle.dsm_words.specs.Counts.{IsFrom1To}
 use Rattle.dsm_words.specs.declared.item.Item.{Item}
 use Rattle.dsm_words.specs.declared.item.Item.TheVariants.{Frame, Clock}
 use Rattle.dsm_words.specs.Place.{Lay, sizes, start, total}
@@ -14,6 +17,15 @@ pub record Setup : Type 0 where
   pub nodes : ℕ
   pub procs : ℕ
   pub limits : Limits
+
+-- the program keeps its rules, and the cluster and the limits are in their ranges
+pub record IsSetup (s : Setup) : Type 0 where
+  pub objects : ObjectsInside s.program.shape s.program.code
+  pub sizes : IsWithinLimits s.program.shape.pages s.program.shape.words s.program.shape.locks s.program.shape.barriers s.program.shape.flags
+  pub nodes : IsFrom1To 8 s.nodes
+  pub procs : IsFrom1To 8 s.procs
+  pub all : s.nodes * s.procs ≤ 32
+  pub turns : s.limits.turns ≤ 1000000
 
 -- the layout of its words
 abbrev pub lay_in : Setup → Lay

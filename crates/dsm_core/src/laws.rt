@@ -1,7 +1,9 @@
 // Laws of runs, which hold over every list of events.
-ghost use Rattle.dsm_core.specs.Laws.{StartsByItems, EveryStateIsWhole, LeavesOtherProcessors, LeavesOtherWords, KeepsLengths, EveryProcessorIsGiven, EveryProcessorIsReady, EventsAreLoose};
+ghost use Rattle.dsm_core.specs.Laws.{StartsByItems, EveryStateIsWhole, LeavesOtherProcessors, LeavesOtherWords, LeavesOtherMappings, KeepsLengths, EveryProcessorIsGiven, EveryProcessorIsReady, EventsAreLoose};
 ghost use Rattle.dsm_core.specs.Stopping.{EveryStopIsTold, EveryStoppedIsTold};
 ghost use Rattle.dsm_core.specs.Wanting.{EveryWantIsStarved};
+ghost use Rattle.dsm_core.specs.Legality.{EverySyncIsLegal};
+ghost use Rattle.dsm_core.specs.Promises.{EveryRunKeepsThem};
 ghost use Rattle.dsm_core.specs.Examples.{Arrives, Halts, NearlyHalts, StoresAndLoads, LocksInTurn, LockWordCounts, LooksAtALock, MeetTwice, PassesAtTheThirdLook, BothLook, StoppedByATrap, TrapsAtOnce, UnlocksOnce, StoppedByAStarved, SpendsTwo, NoneBehindTheEnd, LoadsLoosely, IsWhatItWasGiven, Starts};
 
 /// What holds of every state, and what one event changes. It does nothing: its clauses are what it is for.
@@ -36,6 +38,22 @@ pub fn stop_law()
 pub fn want_law()
     // Exactly those that were starved.
     ensures { EveryWantIsStarved }
+{}
+
+/// Synchronisation over every list of events, whatever the loads of frames and twins answer. It does nothing: its
+/// clause is what it is for.
+pub fn sync_law()
+    // Nothing is before itself, a lock has one holder at a time, a barrier is passed behind all its arrivals, and a flag
+    // behind as many sets as were asked.
+    ensures { EverySyncIsLegal }
+{}
+
+/// What is promised of every run, the headline on one node among it. It does nothing: its clauses are what it is for.
+pub fn one_node_law()
+    // It holds of what any list of events leaves, and so at every step of every interleaving.
+    ensures runs { EveryRunKeepsThem }
+    // And no event changes another processor's mapping.
+    ensures mappings { LeavesOtherMappings }
 {}
 
 /// Small runs, each with what it leaves. It does nothing: its clauses are what it is for.

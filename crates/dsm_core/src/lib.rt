@@ -1,4 +1,7 @@
-// All processors and all words: what a run is, as definitions.
+// All processors and all words: what a run is, and its running state.
 #![tactic(auto)]
 
+mod homes;
 pub mod laws;
+pub mod ran;
+pub mod state;

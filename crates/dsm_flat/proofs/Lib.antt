@@ -3,3 +3,7 @@ pub mod Objects
 pub mod History
 pub mod Legal
 pub mod Flatness
+pub mod Lists
+pub mod Rows
+pub mod Searching
+pub mod Listing

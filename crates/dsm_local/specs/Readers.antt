@@ -1,5 +1,5 @@
 -- A sequential reader of a code, and what it does next.
-use Rattle.std.specs.Prelude.{ℕ, ◌+◌, ◌<◌, List, nat_lt, if◌then◌else◌, slice_get, slice_set, replicate}
+use Rattle.std.specs.Prelude.{ℕ, ◌+◌, ◌<◌, List, None, Some, nat_lt, if◌then◌else◌, slice_get, slice_set, replicate}
 use Rattle.dsm_isa.specs.declared.instr.Instr.{Instr}
 use Rattle.dsm_local.specs.declared.action.Action.{Action}
 use Rattle.dsm_local.specs.declared.action.Action.TheVariants.{LoadWord, StoreWord, Trap, Spend, Arrive}
@@ -7,13 +7,13 @@ use Rattle.dsm_local.specs.declared.reader.Reader.{Reader}
 use Rattle.dsm_local.specs.declared.setting.Setting.{Setting}
 use Rattle.dsm_local.specs.Actions.{action_of}
 
--- at the start all registers are 0, and nothing is done
+-- at the start all registers are 0, nothing is done, and no pass is open; no program has more than 64 locks
 abbrev pub new_reader : Reader
-new_reader = record { registers = replicate 16 0; place = 0; done = 0 }
+new_reader = record { registers = replicate 16 0; passes = replicate 64 None; place = 0; done = 0 }
 
 -- the reader behind a jump to this place
 abbrev pub jumped : Reader → ℕ → Reader
-jumped r to = record { registers = r.registers; place = to; done = r.done + 1 }
+jumped r to = record r { place = to; done = r.done + 1 }
 
 -- the reader behind an instruction that leaves the registers alone
 abbrev pub moved : Reader → Reader
@@ -21,13 +21,20 @@ moved r = jumped r (r.place + 1)
 
 -- the reader behind an instruction that gives register d the value v
 abbrev pub given : Reader → ℕ → ℕ → Reader
-given r d v = record { registers = slice_set r.registers d v; place = r.place + 1; done = r.done + 1 }
+given r d v = moved (record r { registers = slice_set r.registers d v })
+
+-- the reader with an open pass of lock l, and with none
+abbrev pub opened : Reader → ℕ → ℕ → Reader
+opened r l c = record r { passes = slice_set r.passes l (Some c) }
+
+abbrev pub closed : Reader → ℕ → Reader
+closed r l = record r { passes = slice_set r.passes l None }
 
 -- an instruction begins only where fewer than `turns` are done
 abbrev pub next_action : List Instr → Setting → Reader → Action
 next_action code s r = if nat_lt r.done s.turns then action_of s r (slice_get code r.place) else Spend
 
--- the instruction is done, and the next one comes
+-- the instruction is done at some time, and then the next one comes
 abbrev pub GoesOn : Action → Type 0
 GoesOn (Trap kind) = ⊥
 GoesOn Spend = ⊥

@@ -14,6 +14,16 @@ pub enum Action {
     StoreWord { w: u32, v: u64 },
     /// Prints `v`.
     Print { v: u64 },
+    /// Takes lock `l`.
+    TakeLock { l: u32 },
+    /// Gives lock `l` back, whose open pass has the count `k`.
+    GiveLock { l: u32, k: u64 },
+    /// Arrives at barrier `b`, and waits for all.
+    Meet { b: u32 },
+    /// Sets flag `f` once more.
+    RaiseFlag { f: u32 },
+    /// Waits until flag `f` was set at least `need` times.
+    WaitFlag { f: u32, need: u64 },
     /// Ends, since the instruction can't be done.
     Trap { kind: Trap },
     /// Ends, since it may do no further instruction.

@@ -3,10 +3,10 @@
 pub enum Trap {
     /// A load or store of address `w`, which is above the last word.
     Address { w: u64 },
+    /// An unlock of lock `l`, of which it has no open pass.
+    NotHeld { l: u32 },
     /// A quotient or rest by 0.
     DivideByZero,
-    /// An instruction that no processor does yet.
-    Later,
 }
 
 /// How a processor ended.

@@ -1,6 +1,6 @@
 ghost use Rattle.std.specs.Prelude.{◌≡◌, ◌+◌, ◌<◌, ◌^◌, slice_index, IfSome, IfNone, if◌then◌else◌};
-ghost use Rattle.dsm_local.specs.Actions.{address, word_at, action_of, computed};
-ghost use Rattle.dsm_local.specs.Readers.{new_reader, given, jumped, moved, next_action, GoesOn, IsInside};
+ghost use Rattle.dsm_local.specs.Actions.{open_pass, divide, address, word_at, give_back, IsArithmetic, action_of};
+ghost use Rattle.dsm_local.specs.Readers.{new_reader, given, jumped, moved, opened, closed, next_action, GoesOn, IsInside};
 
 use crate::action::Action;
 use crate::end::Trap;
@@ -9,11 +9,16 @@ use dsm_isa::code::Code;
 use dsm_isa::instr::Instr;
 use dsm_isa::reg::{REGISTERS, Reg};
 
+/// The most locks of a program.
+pub const LOCKS: usize = 64;
+
 /// A sequential reader of a code, which stands before an instruction.
 #[derive(Clone, Copy, Debug, PartialEq, Eq)]
 pub struct Reader {
     /// What its registers hold.
     pub registers: [u64; REGISTERS],
+    /// Of each lock the count of its open pass.
+    pub passes: [Option<u64>; LOCKS],
     /// The place of the instruction.
     pub place: u32,
     /// How many instructions it has done.
@@ -27,6 +32,7 @@ impl Reader {
     {
         Reader {
             registers: [0; REGISTERS],
+            passes: [None; LOCKS],
             place: 0,
             done: 0,
         }
@@ -39,33 +45,60 @@ impl Reader {
         self.registers[a.index()]
     }
 
-    /// The reader behind an instruction that gives register `d` the value `v`.
-    pub fn given(mut self, d: Reg, v: u64) -> Reader
-        requires place { self.place + 1 < 2 ^ 32 }
-        requires done { self.done + 1 < 2 ^ 64 }
-        ensures { result ≡ given self d v }
+    /// The count of its open pass of lock `l`.
+    fn open_pass(&self, l: u32) -> Option<u64>
+        ensures { result ≡ open_pass self.now l }
+    {
+        match self.passes.get(l as usize) {
+            Some(k) => *k,
+            None => None,
+        }
+    }
+
+    /// An instruction that gives register `d` the value `v` is done.
+    pub fn give(&mut self, d: Reg, v: u64)
+        requires place { self.old.place + 1 < 2 ^ 32 }
+        requires done { self.old.done + 1 < 2 ^ 64 }
+        ensures { self.new ≡ given self.old d v }
     {
         self.registers[d.index()] = v;
-        self.moved()
+        self.move_on();
     }
 
-    /// The reader behind an instruction that leaves the registers alone.
-    pub fn moved(self) -> Reader
-        requires place { self.place + 1 < 2 ^ 32 }
-        requires done { self.done + 1 < 2 ^ 64 }
-        ensures { result ≡ moved self }
+    /// An instruction that leaves the registers alone is done.
+    pub fn move_on(&mut self)
+        requires place { self.old.place + 1 < 2 ^ 32 }
+        requires done { self.old.done + 1 < 2 ^ 64 }
+        ensures { self.new ≡ moved self.old }
     {
-        self.jumped(self.place + 1)
+        self.jump(self.place + 1);
     }
 
-    /// The reader behind a jump to place `to`.
-    pub fn jumped(mut self, to: u32) -> Reader
-        requires { self.done + 1 < 2 ^ 64 }
-        ensures { result ≡ jumped self to }
+    /// A jump to place `to` is done.
+    pub fn jump(&mut self, to: u32)
+        requires { self.old.done + 1 < 2 ^ 64 }
+        ensures { self.new ≡ jumped self.old to }
     {
         self.place = to;
         self.done += 1;
-        self
+    }
+
+    /// Lock `l` was passed with count `c`.
+    pub fn open(&mut self, l: u32, c: u64)
+        ensures { self.new ≡ opened self.old l c }
+    {
+        if (l as usize) < LOCKS {
+            self.passes[l as usize] = Some(c);
+        }
+    }
+
+    /// Lock `l` was given back.
+    pub fn close(&mut self, l: u32)
+        ensures { self.new ≡ closed self.old l }
+    {
+        if (l as usize) < LOCKS {
+            self.passes[l as usize] = None;
+        }
     }
 
     /// What the reader does next.
@@ -106,15 +139,37 @@ impl Reader {
             Instr::Bne { a, b, to } => self.branch(self.value(a) != self.value(b), to),
             Instr::Blt { a, b, to } => self.branch(self.value(a) < self.value(b), to),
             Instr::Bge { a, b, to } => self.branch(self.value(a) >= self.value(b), to),
+            Instr::Lock { l } => Action::TakeLock { l },
+            Instr::Unlock { l } => self.give_back(l),
+            Instr::Bar { b } => Action::Meet { b },
+            Instr::Set { f } => Action::RaiseFlag { f },
+            Instr::Wait { f, k } => Action::WaitFlag { f, need: k },
+            Instr::Waitr { f, a } => Action::WaitFlag {
+                f,
+                need: self.value(a),
+            },
             Instr::Out { s } => Action::Print { v: self.value(s) },
             Instr::Halt => Action::Arrive,
             _ => self.computed(setting, instr),
         }
     }
 
-    /// What an instruction of arithmetic does. The others are those that no processor does yet.
+    /// Gives lock `l` back, where it has an open pass of it.
+    fn give_back(&self, l: u32) -> Action
+        ensures { result ≡ give_back l (open_pass self.now l) }
+    {
+        match self.open_pass(l) {
+            Some(k) => Action::GiveLock { l, k },
+            None => Action::Trap {
+                kind: Trap::NotHeld { l },
+            },
+        }
+    }
+
+    /// What an instruction of arithmetic does.
     fn computed(&self, setting: Setting, instr: Instr) -> Action
-        ensures { result ≡ computed setting self.now instr }
+        requires { IsArithmetic instr }
+        ensures { result ≡ action_of setting self.now (Some instr) }
     {
         match instr {
             Instr::Li { d, k } => set(d, k),
@@ -136,7 +191,7 @@ impl Reader {
             Instr::Addi { d, a, k } => set(d, self.value(a).wrapping_add(k)),
             Instr::Subi { d, a, k } => set(d, self.value(a).wrapping_sub(k)),
             Instr::Muli { d, a, k } => set(d, self.value(a).wrapping_mul(k)),
-            _ => Action::Trap { kind: Trap::Later },
+            _ => unreachable!(),
         }
     }
 

@@ -1,5 +1,5 @@
 ghost use Rattle.std.specs.Prelude.{◌≡◌, ◌↔◌, IsTrue};
-ghost use Rattle.dsm_local.specs.Local.{Local, LocalTo, MayEnd, Stops, setting_of};
+ghost use Rattle.dsm_local.specs.Local.{Local, LocalTo, MayEnd, MayWait, Stops, setting_of};
 
 use crate::action::Action;
 use crate::end::End;
@@ -71,6 +71,7 @@ fn may_end(code: &Code, setting: Setting, stand: Stand, end: Option<End>) -> boo
     };
     match stand {
         Stand::Before(reader) => stops(reader.place, reader.next(code, setting), end),
+        Stand::Met { .. } => matches!(end, End::Looked | End::Stopped { .. } | End::NoMemory),
         Stand::Arrived => matches!(end, End::Looked | End::Stopped { .. } | End::NoMemory),
         Stand::Passed => matches!(end, End::Halted | End::NoMemory),
     }
@@ -83,7 +84,15 @@ fn stops(place: u32, action: Action, end: End) -> bool
     match end {
         End::Trapped { at, kind } => at == place && action == Action::Trap { kind },
         End::Spent => action == Action::Spend,
+        End::Looked | End::Stopped { .. } => may_wait(action),
         End::NoMemory => true,
-        _ => false,
+        End::Halted => false,
     }
+}
+
+/// Whether an action may have to wait before its entry.
+fn may_wait(action: Action) -> bool
+    ensures { IsTrue result ↔ MayWait action }
+{
+    matches!(action, Action::TakeLock { .. } | Action::WaitFlag { .. })
 }

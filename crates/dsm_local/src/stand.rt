@@ -5,6 +5,8 @@ use crate::reader::Reader;
 pub enum Stand {
     /// Before an instruction.
     Before(Reader),
+    /// At barrier `b`, which it has not passed; behind it the reader is this.
+    Met { reader: Reader, b: u32 },
     /// At the closing barrier, which it has not passed.
     Arrived,
     /// Behind the closing barrier.

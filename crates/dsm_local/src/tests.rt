@@ -13,6 +13,8 @@ use dsm_isa::shape::Shape;
 use std::alloc::Global;
 use std::test::Fail;
 
+mod synchronisation;
+
 fn reg(k: u32) -> Result<Reg, Fail> {
     Ok(Reg::new(k).ok_or("no register")?)
 }
@@ -90,7 +92,6 @@ fn jumps_and_traps(rt: HostRuntime) -> Result<(), Fail> {
             Action::LoadWord { d: z, w: 3 },
         ),
         (Instr::St { s: a, a: z, k: 4 }, trap(Trap::Address { w: 4 })),
-        (Instr::Bar { b: 0 }, trap(Trap::Later)),
         (Instr::Halt, Action::Arrive),
     ];
     for (instr, does) in table {
@@ -99,7 +100,8 @@ fn jumps_and_traps(rt: HostRuntime) -> Result<(), Fail> {
     Ok(())
 }
 
-/// Whether these entries are the trace of the only processor of a memory of four words.
+/// Whether these entries are the trace of the only processor of a memory of four words, with two locks, barriers
+/// and flags.
 fn answer(
     alloc: Global,
     list: &[Instr],
@@ -107,7 +109,7 @@ fn answer(
     entries: &[Entry],
     end: Option<End>,
 ) -> Result<bool, Fail> {
-    let shape = Shape::new(1, 4, 0, 0, 0).ok_or("no shape")?;
+    let shape = Shape::new(1, 4, 2, 2, 2).ok_or("no shape")?;
     let code = Code::new(list.to_vec(alloc)?)?;
     let program = Program::new(shape, Vec::new(alloc), code).ok_or("no program")?;
     let mut trace = Trace::new(alloc);
@@ -118,69 +120,90 @@ fn answer(
     Ok(is_run(&program, 0, 1, turns, &trace, end))
 }
 
-// Stores 5 to word 2, loads it and prints what it got.
-#[test]
-fn follows_a_trace(rt: HostRuntime) -> Result<(), Fail> {
-    let alloc = rt.alloc();
+/// Stores 5 to word 2, loads it and prints what it got.
+fn through_memory() -> Result<[Instr; 4], Fail> {
     let (z, a, b) = (reg(0)?, reg(1)?, reg(2)?);
-    let o = Obj::Close;
-    let code = [
+    Ok([
         Instr::Li { d: a, k: 5 },
         Instr::St { s: a, a: z, k: 2 },
         Instr::Ld { d: b, a: z, k: 2 },
         Instr::Out { s: b },
-    ];
-    let right = [
+    ])
+}
+
+/// What it does where the load gets 9.
+fn its_trace() -> [Entry; 5] {
+    let o = Obj::Close;
+    [
         Entry::Store { w: 2, v: 5 },
         Entry::Load { w: 2, v: 9 },
         Entry::Out { v: 9 },
         Entry::Signal { o, j: 7 },
         Entry::Pass { o, c: 8 },
-    ];
+    ]
+}
+
+// Cut short, it has not ended, or had no memory; before the pass it may also have waited.
+#[test]
+fn follows_a_part(rt: HostRuntime) -> Result<(), Fail> {
+    let alloc = rt.alloc();
+    let code = through_memory()?;
+    let right = its_trace();
+    for n in 0..right.len() {
+        let part = &right[..n];
+        let table = [
+            (None, true),
+            (Some(End::NoMemory), true),
+            (Some(End::Halted), false),
+            (Some(End::Looked), n == 4),
+            (Some(End::Stopped { by: 1 }), n == 4),
+        ];
+        for (end, holds) in table {
+            assert_eq!(rt; answer(alloc, &code, 5, part, end)?, holds, "{n}");
+        }
+    }
+    Ok(())
+}
+
+// One entry is another.
+#[test]
+fn refuses_another_entry(rt: HostRuntime) -> Result<(), Fail> {
+    let alloc = rt.alloc();
+    let code = through_memory()?;
+    let right = its_trace();
+    let (lock, barrier) = (Obj::Lock(0), Obj::Barrier(0));
     let wrong = [
         Entry::Store { w: 2, v: 6 },
         Entry::Load { w: 1, v: 9 },
         Entry::Out { v: 5 },
-        Entry::Signal {
-            o: Obj::Lock(0),
-            j: 7,
-        },
-        Entry::Pass {
-            o: Obj::Barrier(0),
-            c: 8,
-        },
+        Entry::Signal { o: lock, j: 7 },
+        Entry::Pass { o: barrier, c: 8 },
     ];
     for n in 0..right.len() {
-        // Cut short, it has not ended, or had no memory; before the pass it may also have waited.
-        let waits = n == 4;
-        assert!(rt; answer(alloc, &code, 5, &right[..n], None)?);
-        assert!(rt; answer(alloc, &code, 5, &right[..n], Some(End::NoMemory))?);
-        assert!(rt; !answer(alloc, &code, 5, &right[..n], Some(End::Halted))?);
-        assert_eq!(rt;
-            answer(alloc, &code, 5, &right[..n], Some(End::Looked))?,
-            waits
-        );
-        assert_eq!(rt;
-            answer(alloc, &code, 5, &right[..n], Some(End::Stopped { by: 1 }))?,
-            waits
-        );
-        // One value is changed.
         let mut changed = right;
         changed[n] = wrong[n];
-        assert!(rt; !answer(alloc, &code, 5, &changed, Some(End::Halted))?);
-        assert!(rt; !answer(alloc, &code, 5, &changed, None)?);
+        assert!(rt;
+            !answer(alloc, &code, 5, &changed, Some(End::Halted))?,
+            "{n}"
+        );
+        assert!(rt; !answer(alloc, &code, 5, &changed, None)?, "{n}");
     }
-    // Four instructions and a halt.
+    Ok(())
+}
+
+// The whole trace is four instructions and a halt; another end, and an entry too many.
+#[test]
+fn follows_a_whole_trace(rt: HostRuntime) -> Result<(), Fail> {
+    let alloc = rt.alloc();
+    let code = through_memory()?;
+    let right = its_trace();
     assert!(rt; answer(alloc, &code, 5, &right, Some(End::Halted))?);
     assert!(rt; answer(alloc, &code, 5, &right, None)?);
     assert!(rt; !answer(alloc, &code, 4, &right, Some(End::Halted))?);
     assert!(rt; answer(alloc, &code, 4, &right[..3], Some(End::Spent))?);
     assert!(rt; !answer(alloc, &code, 5, &right[..3], Some(End::Spent))?);
-    // Another end, and an entry too many.
-    let trapped = End::Trapped {
-        at: 4,
-        kind: Trap::Later,
-    };
+    let kind = Trap::DivideByZero;
+    let trapped = End::Trapped { at: 4, kind };
     for end in [End::Spent, End::Looked, End::Stopped { by: 1 }, trapped] {
         assert!(rt; !answer(alloc, &code, 5, &right, Some(end))?);
     }
@@ -190,57 +213,36 @@ fn follows_a_trace(rt: HostRuntime) -> Result<(), Fail> {
     Ok(())
 }
 
-// A loop without an entry stops by the number of instructions, and a trap before its instruction.
+// A loop without an entry stops by the number of instructions.
 #[test]
 fn follows_no_entry(rt: HostRuntime) -> Result<(), Fail> {
     let alloc = rt.alloc();
-    let z = reg(0)?;
-    let zero = Trap::DivideByZero;
     let spin = [Instr::Jmp { to: 0 }];
-    let trap = [Instr::Div { d: z, a: z, b: z }];
     assert!(rt; answer(alloc, &spin, 1000, &[], Some(End::Spent))?);
     assert!(rt; answer(alloc, &spin, 1000, &[], None)?);
     assert!(rt; !answer(alloc, &spin, 1000, &[], Some(End::Halted))?);
     assert!(rt; !answer(alloc, &spin, 1000, &[Entry::Out { v: 0 }], Some(End::Spent))?);
-    assert!(rt;
-        answer(
-            alloc,
-            &trap,
-            1,
-            &[],
-            Some(End::Trapped { at: 0, kind: zero })
-        )?
-    );
-    assert!(rt;
-        !answer(
-            alloc,
-            &trap,
-            1,
-            &[],
-            Some(End::Trapped { at: 1, kind: zero })
-        )?
-    );
-    assert!(rt;
-        !answer(
-            alloc,
-            &trap,
-            1,
-            &[],
-            Some(End::Trapped {
-                at: 0,
-                kind: Trap::Later
-            })
-        )?
-    );
-    assert!(rt; answer(alloc, &trap, 0, &[], Some(End::Spent))?);
-    assert!(rt;
-        !answer(
-            alloc,
-            &trap,
-            0,
-            &[],
-            Some(End::Trapped { at: 0, kind: zero })
-        )?
-    );
+    Ok(())
+}
+
+// A trap is before its instruction, and names what can't be done.
+#[test]
+fn follows_to_a_trap(rt: HostRuntime) -> Result<(), Fail> {
+    let alloc = rt.alloc();
+    let z = reg(0)?;
+    let code = [Instr::Div { d: z, a: z, b: z }];
+    let trapped = |at, kind| End::Trapped { at, kind };
+    let zero = Trap::DivideByZero;
+    let table = [
+        (1, trapped(0, zero), true),
+        (1, trapped(1, zero), false),
+        (1, trapped(0, Trap::NotHeld { l: 0 }), false),
+        (1, trapped(0, Trap::Address { w: 0 }), false),
+        (0, trapped(0, zero), false),
+        (0, End::Spent, true),
+    ];
+    for (turns, end, holds) in table {
+        assert_eq!(rt; answer(alloc, &code, turns, &[], Some(end))?, holds);
+    }
     Ok(())
 }

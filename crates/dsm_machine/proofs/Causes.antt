@@ -1,14 +1,16 @@
 -- Each end has its cause.
-use Rattle.std.proofs.Common.{◌≡◌, ℕ, ◌-◌, ◌%◌, ◌^◌, ◌<◌, ◌==◌, Bool, true, false, List, [], ◌∷◌, Option, Some, None, refl, sym, ap, subst, ◌∙◌, if◌then◌else◌, arith}
-use Rattle.std.specs.Prelude.{slice_get, nat_lt, nat_le}
+use Rattle.std.proofs.Common.{◌≡◌, ℕ, ◌-◌, ◌%◌, ◌^◌, ◌<◌, ◌≤◌, ◌==◌, Bool, true, false, List, [], ◌∷◌, Option, Some, None, refl, sym, ap, subst, if◌then◌else◌, arith}
+use Rattle.std.specs.Prelude.{Result, Ok, Err, slice_get, nat_lt, nat_le}
 use Rattle.std.proofs.lemmas.Bool.{eqb-true, eqb-false, ltb-true, ltb-false}
 use Rattle.dsm_isa.specs.declared.instr.Instr.{Instr}
-use Rattle.dsm_isa.specs.declared.instr.Instr.TheVariants.{Div, Rem, Ld, St, Lock, Unlock, Bar, Set as SetFlag, Wait, Waitr}
+use Rattle.dsm_isa.specs.declared.instr.Instr.TheVariants.{Div, Rem, Ld, St, Unlock}
 use Rattle.dsm_local.specs.declared.action.Action.{Action}
-use Rattle.dsm_local.specs.declared.action.Action.TheVariants.{Set, Jump, LoadWord, StoreWord, Print, Trap, Spend, Arrive}
+use Rattle.dsm_local.specs.declared.action.Action.TheVariants.{Set, Jump, LoadWord, StoreWord, Print, TakeLock, GiveLock, Meet, RaiseFlag, WaitFlag, Trap, Spend, Arrive}
+use Rattle.dsm_local.specs.declared.end.Trap.{Trap as Kind}
 use Rattle.dsm_local.specs.declared.reader.Reader.{Reader}
 use Rattle.dsm_local.specs.declared.setting.Setting.{Setting}
-use Rattle.dsm_local.specs.Actions.{value, address, word_at, load, store, computed, action_of}
+use Rattle.dsm_local.specs.Actions.{value, address, word_at, load, store, give_back, open_pass, action_of}
+use Rattle.dsm_local.specs.Readers.{next_action}
 use Rattle.dsm_words.specs.declared.item.Item.TheVariants.{Stop, Lock as LockWord}
 use Rattle.dsm_words.specs.Script.{Act, Get, End}
 use Rattle.dsm_sync.specs.declared.counter.Counter.{Counter}
@@ -17,17 +19,17 @@ use Rattle.dsm_sync.specs.declared.got.Got.{Got}
 use Rattle.dsm_sync.specs.declared.got.Got.TheVariants.{Ready, Unready}
 use Rattle.dsm_sync.specs.Counting.{count_of}
 use Rattle.dsm_sync.specs.Locks.{take_script}
-use Rattle.dsm_machine.specs.declared.ending.Ending.{Ending}
-use Rattle.dsm_machine.specs.declared.ending.Ending.TheVariants.{Spent, Looked, Stopped}
+use Rattle.dsm_local.specs.declared.end.End.{End as Ending}
+use Rattle.dsm_local.specs.declared.end.End.TheVariants.{Looked, Stopped}
 use Rattle.dsm_machine.specs.declared.head.Head.{Head}
 use Rattle.dsm_machine.specs.declared.head.Head.TheVariants.{Instruction, Locking, Looking}
-use Rattle.dsm_machine.specs.Own.{Own, Who, setting_of, open_pass, new_own, looked_again}
+use Rattle.dsm_machine.specs.Own.{Own, Who, setting_of, new_own, looked_again}
 use Rattle.dsm_machine.specs.Jobs.{Job, Make, Again, Mark, Ask, Begin, Ended, call, own_after, job_after, first_act}
-use Rattle.dsm_machine.specs.Steps.{is_last, heed_job, stop_job, unready_job, tried_job, looked_job, look_job, unlock_job, action_job, instruction_job, head_job, starved_job}
+use Rattle.dsm_machine.specs.Steps.{is_last, heed_job, stop_job, unready_job, tried_job, looked_job, look_job, action_job, head_job, starved_job}
 use Rattle.dsm_machine.specs.Processors.{Processor, Given, settled, run_on, ending, wanting, after_given, processor_of}
 use Rattle.dsm_machine.specs.Ends.{Cause, EveryEndHasItsCause}
 
--- with fewer instructions done than it may, a reader is not spent
+-- no instruction is of a kind that spends
 abbrev IsNoSpend : Action → Type 0
 IsNoSpend Spend = ⊥
 IsNoSpend _ = Unit {0}
@@ -36,26 +38,41 @@ no_spend-if : (b : Bool) (x y : Action) → IsNoSpend x → IsNoSpend y → IsNo
 no_spend-if true x y h k = h
 no_spend-if false x y h k = k
 
-no_spend-load : (size d w : ℕ) (test : Bool) → nat_lt w size ≡ test → IsNoSpend (load d (word_at size w))
-no_spend-load size d w true is = rw is tt
-no_spend-load size d w false is = rw is tt
+no_spend-load : (d : ℕ) (w : Result ℕ ℕ) → IsNoSpend (load d w)
+no_spend-load d (Ok w) = tt
+no_spend-load d (Err w) = tt
 
-no_spend-store : (size v w : ℕ) (test : Bool) → nat_lt w size ≡ test → IsNoSpend (store v (word_at size w))
-no_spend-store size v w true is = rw is tt
-no_spend-store size v w false is = rw is tt
+no_spend-store : (v : ℕ) (w : Result ℕ ℕ) → IsNoSpend (store v w)
+no_spend-store v (Ok w) = tt
+no_spend-store v (Err w) = tt
 
-no_spend-computed : (s : Setting) (r : Reader) (i : Instr) → IsNoSpend (computed s r i)
-no_spend-computed s r (Div d a b) = no_spend-if (value r b == 0) _ _ tt tt
-no_spend-computed s r (Rem d a b) = no_spend-if (value r b == 0) _ _ tt tt
-no_spend-computed s r _ = tt
+no_spend-give_back : (l : ℕ) (k : Option ℕ) → IsNoSpend (give_back l k)
+no_spend-give_back l None = tt
+no_spend-give_back l (Some k) = tt
 
 no_spend : (s : Setting) (r : Reader) (i : Option Instr) → IsNoSpend (action_of s r i)
-no_spend s r (Some (Ld d a k)) = no_spend-load s.size d (address r a k) (nat_lt (address r a k) s.size) refl
-no_spend s r (Some (St v a k)) = no_spend-store s.size (value r v) (address r a k) (nat_lt (address r a k) s.size) refl
-no_spend s r None = tt
-no_spend s r (Some (Div d a b)) = no_spend-computed s r (Div d a b)
-no_spend s r (Some (Rem d a b)) = no_spend-computed s r (Rem d a b)
-no_spend s r (Some _) = tt
+no_spend s r (Some (Ld d a k)) = no_spend-load d (word_at s.size (address r a k))
+no_spend s r (Some (St v a k)) = no_spend-store (value r v) (word_at s.size (address r a k))
+no_spend s r (Some (Div d a b)) = no_spend-if (value r b == 0) _ _ tt tt
+no_spend s r (Some (Rem d a b)) = no_spend-if (value r b == 0) _ _ tt tt
+no_spend s r (Some (Unlock l)) = no_spend-give_back l (open_pass r l)
+no_spend s r _ = tt
+
+-- so a reader whose next action is to spend has done as many as it may
+spend_cause : (code : List Instr) (s : Setting) (r : Reader) → next_action code s r ≡ Spend → s.turns ≤ r.done
+spend_cause code s r is = go (nat_lt r.done s.turns) refl is
+  where
+    go : (b : Bool) → nat_lt r.done s.turns ≡ b → (if b then action_of s r (slice_get code r.place) else Spend) ≡ Spend → s.turns ≤ r.done
+    go true may is = absurd (subst IsNoSpend is (no_spend s r (slice_get code r.place)))
+    go false spent is = ltb-false _ _ spent
+
+-- and one that traps may do an instruction, which can't be done
+trap_cause : (code : List Instr) (s : Setting) (r : Reader) (kind : Kind) → next_action code s r ≡ Trap kind → (r.done < s.turns) × (action_of s r (slice_get code r.place) ≡ Trap kind)
+trap_cause code s r kind is = go (nat_lt r.done s.turns) refl is
+  where
+    go : (b : Bool) → nat_lt r.done s.turns ≡ b → (if b then action_of s r (slice_get code r.place) else Spend) ≡ Trap kind → (r.done < s.turns) × (action_of s r (slice_get code r.place) ≡ Trap kind)
+    go true may is = (ltb-true _ _ may, is)
+    go false spent is = absurd (cc is)
 
 module _ (u : Who) (code : List Instr) where
   -- the answer, where memory was not wanting
@@ -113,28 +130,20 @@ module _ (u : Who) (code : List Instr) where
   look_stands : (o : Own) (a : Act) (g : Given) (of : Counter) (need : ℕ) → Stands a g o (look_job u of need)
   look_stands o a g of need = λ x. passed_sound o _ _ of need (if nat_le need x then Ready (count_of of need x) else Unready)
 
-  action_stands : (o : Own) (a : Act) (g : Given) (i : Option Instr) (act : Action) → o.reader.done < u.limits.turns → slice_get code o.reader.place ≡ i → action_of (setting_of u) o.reader i ≡ act → Stands a g o (action_job u o act)
-  action_stands o a g i (Set d v) may here is = λ x. tt
-  action_stands o a g i (Jump to) may here is = λ x. tt
-  action_stands o a g i (LoadWord d w) may here is = λ x. tt
-  action_stands o a g i (StoreWord w v) may here is = λ x. tt
-  action_stands o a g i (Print v) may here is = λ x. tt
-  action_stands o a g i (Trap kind) may here is = λ x. (refl, (refl, may), ap (action_of (setting_of u) o.reader) here ∙ is)
-  action_stands o a g i Spend may here is = absurd (subst IsNoSpend is (no_spend (setting_of u) o.reader i))
-  action_stands o a g i Arrive may here is = λ x. tt
-
-  unlock_stands : (o : Own) (a : Act) (g : Given) (l : ℕ) (k : Option ℕ) → o.reader.done < u.limits.turns → slice_get code o.reader.place ≡ Some (Unlock l) → open_pass o l ≡ k → Stands a g o (unlock_job u o l k)
-  unlock_stands o a g l None may here is = λ x. (refl, (refl, may), here, is)
-  unlock_stands o a g l (Some k) may here is = λ x. tt
-
-  instruction_stands : (o : Own) (a : Act) (g : Given) (i : Option Instr) → o.reader.done < u.limits.turns → slice_get code o.reader.place ≡ i → Stands a g o (instruction_job u o i)
-  instruction_stands o a g (Some (Lock l)) may here = λ x. lock_sound o l x (x % 2 == 0)
-  instruction_stands o a g (Some (Unlock l)) may here = unlock_stands o a g l (open_pass o l) may here refl
-  instruction_stands o a g (Some (Bar b)) may here = λ x. tt
-  instruction_stands o a g (Some (SetFlag f)) may here = λ x. tt
-  instruction_stands o a g (Some (Wait f k)) may here = look_stands o a g (Flag f) k
-  instruction_stands o a g (Some (Waitr f r)) may here = look_stands o a g (Flag f) (value o.reader r)
-  instruction_stands o a g i may here = action_stands o a g i (action_of (setting_of u) o.reader i) may here refl
+  action_stands : (o : Own) (a : Act) (g : Given) (act : Action) → next_action code (setting_of u) o.reader ≡ act → Stands a g o (action_job u o act)
+  action_stands o a g (Set d v) is = λ x. tt
+  action_stands o a g (Jump to) is = λ x. tt
+  action_stands o a g (LoadWord d w) is = λ x. tt
+  action_stands o a g (StoreWord w v) is = λ x. tt
+  action_stands o a g (Print v) is = λ x. tt
+  action_stands o a g (TakeLock l) is = λ x. lock_sound o l x (x % 2 == 0)
+  action_stands o a g (GiveLock l k) is = λ x. tt
+  action_stands o a g (Meet b) is = λ x. tt
+  action_stands o a g (RaiseFlag f) is = λ x. tt
+  action_stands o a g (WaitFlag f need) is = look_stands o a g (Flag f) need
+  action_stands o a g (Trap kind) is = let h = trap_cause code (setting_of u) o.reader kind is in λ x. (refl, (refl, h.0), h.1)
+  action_stands o a g Spend is = λ x. (refl, spend_cause code (setting_of u) o.reader is)
+  action_stands o a g Arrive is = λ x. tt
 
   -- a processor that stands
   abbrev At : Act → Given → Processor → Type 0
@@ -149,14 +158,7 @@ module _ (u : Who) (code : List Instr) where
   settled_at o a g (Begin c) h = absurd h
 
   head_at : (o : Own) (a : Act) (g : Given) (h : Head) → At a g (settled o (head_job u code h))
-  head_at o a g Instruction = go (nat_lt o.reader.done u.limits.turns) refl
-    where
-      i : Option Instr
-      i = slice_get code o.reader.place
-
-      go : (b : Bool) → nat_lt o.reader.done u.limits.turns ≡ b → At a g (settled o (if b then instruction_job u o i else stop_job u Spent))
-      go true may = settled_at o a g (instruction_job u o i) (instruction_stands o a g i (ltb-true _ _ may) refl)
-      go false spent = λ x. (refl, ltb-false _ _ spent)
+  head_at o a g Instruction = let act = next_action code (setting_of u) o.reader in settled_at o a g (action_job u o act) (action_stands o a g act refl)
   head_at o a g (Locking l) = λ x. lock_sound o l x (x % 2 == 0)
   head_at o a g (Looking of need) = look_stands o a g of need
 

@@ -3,3 +3,4 @@ pub mod Musts
 pub mod Reading
 pub mod Settling
 pub mod Turns
+pub mod Within

@@ -8,7 +8,7 @@ use Rattle.dsm_sync.specs.declared.lock.Point.TheVariants.{Look, Take, Over as T
 use Rattle.dsm_sync.specs.Locks.{lock_at}
 use Rattle.dsm_words.specs.declared.item.Item.TheVariants.{Stop}
 use Rattle.dsm_words.specs.Script.{Get}
-use Rattle.dsm_machine.specs.declared.ending.Ending.TheVariants.{Looked}
+use Rattle.dsm_local.specs.declared.end.End.TheVariants.{Looked}
 use Rattle.dsm_machine.specs.declared.head.Head.TheVariants.{Locking}
 use Rattle.dsm_machine.specs.declared.point.Point.{Point}
 use Rattle.dsm_machine.specs.declared.point.Point.TheVariants.{At, Trying, Heeding, Stopping, Over}

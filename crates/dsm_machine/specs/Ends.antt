@@ -1,23 +1,20 @@
 -- The table of ends: which end comes where.
-use Rattle.std.specs.Prelude.{◌≡◌, ◌≢◌, ℕ, ◌+◌, ◌-◌, ◌%◌, ◌^◌, ◌<◌, ◌≤◌, true, List, [], ◌∷◌, ◌++◌, None, Some, slice_get}
+use Rattle.std.specs.Prelude.{◌≡◌, ℕ, ◌+◌, ◌-◌, ◌%◌, ◌^◌, ◌<◌, ◌≤◌, true, List, [], ◌∷◌, ◌++◌, None, Some, slice_get}
 use Rattle.dsm_entry.specs.declared.entry.Entry.{Entry}
 use Rattle.dsm_entry.specs.declared.entry.Entry.TheVariants.{Pass}
 use Rattle.dsm_entry.specs.declared.entry.Obj.TheVariants.{Close}
 use Rattle.dsm_isa.specs.declared.instr.Instr.{Instr}
-use Rattle.dsm_isa.specs.declared.instr.Instr.TheVariants.{Unlock}
 use Rattle.dsm_local.specs.declared.action.Action.TheVariants.{Trap}
 use Rattle.dsm_local.specs.declared.end.Trap.{Trap as Kind}
-use Rattle.dsm_local.specs.declared.end.Trap.TheVariants.{Later}
 use Rattle.dsm_local.specs.Actions.{action_of}
 use Rattle.dsm_words.specs.declared.item.Item.TheVariants.{Stop}
 use Rattle.dsm_words.specs.Script.{Act, Get, Change}
 use Rattle.dsm_sync.specs.declared.counter.Counter.TheVariants.{Close as CloseWord}
-use Rattle.dsm_machine.specs.declared.ending.Ending.{Ending}
-use Rattle.dsm_machine.specs.declared.ending.Ending.TheVariants.{Halted, Trapped, Spent, Looked, Stopped, NoMemory}
-use Rattle.dsm_machine.specs.declared.ending.Fault.TheVariants.{Plain, NotHeld}
+use Rattle.dsm_local.specs.declared.end.End.{End as Ending}
+use Rattle.dsm_local.specs.declared.end.End.TheVariants.{Halted, Trapped, Spent, Looked, Stopped, NoMemory}
 use Rattle.dsm_machine.specs.declared.head.Head.{Head}
 use Rattle.dsm_machine.specs.declared.head.Head.TheVariants.{Instruction}
-use Rattle.dsm_machine.specs.Own.{Own, Who, setting_of, open_pass, appended, looked_again}
+use Rattle.dsm_machine.specs.Own.{Own, Who, setting_of, appended, looked_again}
 use Rattle.dsm_machine.specs.Jobs.{Make, Begin, Ended, first_act}
 use Rattle.dsm_machine.specs.Steps.{heed_job, unready_job, look_job}
 use Rattle.dsm_machine.specs.Processors.{Processor, Given, settled, begun, ending, wanting, after_answer, after_given, processor_of}
@@ -37,8 +34,7 @@ StandsAt u o place = (place ≡ o.reader.place) × (o.reader.done < u.limits.tur
 -- why the event that makes operation a, given this, leaves a processor that holds o with this end
 abbrev pub Cause : Who → List Instr → Own → Act → Given → Ending → Type 0
 Cause u code o a g Halted = HasPassed o.trace
-Cause u code o a g (Trapped place (Plain kind)) = TellsToStop u a × StandsAt u o place × (action_of (setting_of u) o.reader (slice_get code o.reader.place) ≡ Trap kind)
-Cause u code o a g (Trapped place (NotHeld l)) = TellsToStop u a × StandsAt u o place × (slice_get code o.reader.place ≡ Some (Unlock l)) × (open_pass o l ≡ None)
+Cause u code o a g (Trapped place kind) = TellsToStop u a × StandsAt u o place × (action_of (setting_of u) o.reader (slice_get code o.reader.place) ≡ Trap kind)
 Cause u code o a g Spent = TellsToStop u a × (u.limits.turns ≤ o.reader.done)
 Cause u code o a g Looked = TellsToStop u a × (u.limits.looks ≡ Some o.counts.unready)
 Cause u code o a g (Stopped by) = (a ≡ Get Stop) × (0 < g.got) × (by ≡ (g.got - 1) % 2 ^ 32)
@@ -63,21 +59,12 @@ begins u code o got = after_answer u code (begun u code o (Begin Instruction)) g
 abbrev pub SpentEnds : Type 0
 SpentEnds = (u : Who) (code : List Instr) (o : Own) (got : ℕ) → u.limits.turns ≤ o.reader.done → begins u code o got ≡ over o Spent
 
--- it traps where a plain reader does, at whatever that reader can't do
+-- it traps where a plain reader does, at whatever that reader can't do: an address, a lock that is not held, a divisor
 abbrev pub TrapsEnd : Type 0
 TrapsEnd = (u : Who) (code : List Instr) (o : Own) (got : ℕ) (kind : Kind)
     → o.reader.done < u.limits.turns
     → action_of (setting_of u) o.reader (slice_get code o.reader.place) ≡ Trap kind
-    → kind ≢ Later
-    → begins u code o got ≡ over o (Trapped o.reader.place (Plain kind))
-
--- and at an unlock of a lock of which it has no open pass
-abbrev pub UnheldUnlocksEnd : Type 0
-UnheldUnlocksEnd = (u : Who) (code : List Instr) (o : Own) (got l : ℕ)
-    → o.reader.done < u.limits.turns
-    → slice_get code o.reader.place ≡ Some (Unlock l)
-    → open_pass o l ≡ None
-    → begins u code o got ≡ over o (Trapped o.reader.place (NotHeld l))
+    → begins u code o got ≡ over o (Trapped o.reader.place kind)
 
 -- the last unready look that is allowed ends it, and then the stop word is not loaded
 abbrev pub LastLooksEnd : Type 0

@@ -6,7 +6,7 @@ use Rattle.dsm_words.specs.Script.{Act, Get, Put, Script, End, Do, Until}
 use Rattle.dsm_clock.specs.declared.turns.TurnId.{TurnId}
 use Rattle.dsm_clock.specs.declared.turns.TurnId.TheVariants.{Page, Notices}
 use Rattle.dsm_local.specs.Readers.{given, jumped, moved}
-use Rattle.dsm_machine.specs.declared.ending.Ending.{Ending}
+use Rattle.dsm_local.specs.declared.end.End.{End as Ending}
 use Rattle.dsm_machine.specs.declared.head.Head.{Head}
 use Rattle.dsm_machine.specs.Own.{Own, new_own, appended, looked_again}
 

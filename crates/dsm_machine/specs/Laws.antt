@@ -1,11 +1,17 @@
--- What holds of a processor over every list of answers.
-use Rattle.std.specs.Prelude.{ℕ, ◌*◌, List}
+-- What holds of a processor, whatever it is given.
+use Rattle.std.specs.Prelude.{◌≡◌, List}
+use Rattle.dsm_isa.specs.declared.instr.Instr.{Instr}
 use Rattle.dsm_isa.specs.ProgramText.{ProgramText}
 use Rattle.dsm_local.specs.Local.{Local}
-use Rattle.dsm_machine.specs.declared.limits.TheConstants.{DEFAULT_TURNS}
-use Rattle.dsm_machine.specs.Processor.{new_processor, after_answers}
+use Rattle.dsm_words.specs.Place.{processors}
+use Rattle.dsm_machine.specs.Own.{Who}
+use Rattle.dsm_machine.specs.Processors.{Processor, IsMade, ending}
+use Rattle.dsm_machine.specs.Machines.{sizes_in}
 
--- whatever is answered, the trace is what a plain reader of the code does, with the processor's end
+-- its trace and end are those of a plain reader of any program with this code and the sizes of its layout
+unfoldable pub IsLocal : Who → List Instr → Processor → Type 0
+IsLocal u code m = (program : ProgramText) → program.code ≡ code → program.shape ≡ sizes_in u.lay → Local program u.p (processors u.lay) u.limits.turns m.own.trace (ending m)
+
+-- whatever it is given, what it did is what a plain sequential reader of the code does
 abbrev pub EveryTraceIsLocal : Type 0
-EveryTraceIsLocal = (program : ProgramText) (answers : List ℕ)
-    → let p = after_answers (program.shape.pages * program.shape.words) program.code new_processor answers in Local program 0 1 DEFAULT_TURNS p.trace p.end
+EveryTraceIsLocal = (u : Who) (code : List Instr) (m : Processor) → IsMade u code m → IsLocal u code m

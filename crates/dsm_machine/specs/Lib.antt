@@ -4,7 +4,5 @@ pub mod Laws
 pub mod Machines
 pub mod Own
 pub mod Points
-pub mod Processor
 pub mod Processors
-pub mod Seen
 pub mod Steps

@@ -5,7 +5,7 @@ use Rattle.dsm_isa.specs.ProgramText.{Sizes}
 use Rattle.dsm_words.specs.declared.item.Item.TheVariants.{Stop}
 use Rattle.dsm_words.specs.Place.{Lay, lay_of}
 use Rattle.dsm_words.specs.Script.{Act, Change}
-use Rattle.dsm_machine.specs.declared.processor.Machine.{Machine}
+use Rattle.dsm_machine.specs.declared.machine.Machine.{Machine}
 use Rattle.dsm_machine.specs.Own.{Who, Own}
 use Rattle.dsm_machine.specs.Jobs.{first_act}
 use Rattle.dsm_machine.specs.Points.{job_at}
@@ -17,7 +17,7 @@ who m = record { lay = lay_of m.lay; p = m.p; limits = m.limits }
 
 -- what it holds: on one node no page is mapped and none is dirty
 abbrev pub own_of : Machine → Own
-own_of m = record { reader = m.reader; maps = replicate 256 0; dirty = replicate 256 false; passes = m.passes; trace = m.trace.list; counts = m.counts }
+own_of m = record { reader = m.reader; maps = replicate 256 0; dirty = replicate 256 false; trace = m.trace.list; counts = m.counts }
 
 -- what it is between two events: an instruction has not begun yet
 abbrev pub seen : Machine → Processor

@@ -1,11 +1,11 @@
 -- What one processor is told, and what it holds.
-use Rattle.std.specs.Prelude.{ℕ, ◌+◌, ◌*◌, ◌/◌, ◌%◌, ◌^◌, Bool, false, List, [], ◌∷◌, ◌++◌, Option, None, Some, replicate, slice_get, slice_set, option_and_then}
+use Rattle.std.specs.Prelude.{ℕ, ◌+◌, ◌*◌, ◌/◌, ◌%◌, ◌^◌, Bool, false, List, [], ◌∷◌, ◌++◌, replicate}
 use Rattle.dsm_entry.specs.declared.entry.Entry.{Entry}
 use Rattle.dsm_entry.specs.declared.entry.Entry.TheVariants.{Signal, Pass}
 use Rattle.dsm_entry.specs.declared.entry.Obj.TheVariants.{Lock}
 use Rattle.dsm_local.specs.declared.reader.Reader.{Reader}
 use Rattle.dsm_local.specs.declared.setting.Setting.{Setting}
-use Rattle.dsm_local.specs.Readers.{new_reader}
+use Rattle.dsm_local.specs.Readers.{new_reader, opened, closed}
 use Rattle.dsm_words.specs.Place.{Lay, processors}
 use Rattle.dsm_machine.specs.declared.counts.Counts.{Counts}
 use Rattle.dsm_machine.specs.declared.limits.Limits.{Limits}
@@ -28,32 +28,45 @@ setting_of u = record { size = u.lay.pages * u.lay.words; p = u.p; procs = proce
 abbrev pub no_counts : Counts
 no_counts = record { read_faults = 0; write_faults = 0; overwrites = 0; merges = 0; twins = 0; flushes = 0; early = 0; notices = 0; unmaps = 0; enters = 0; breaks = 0; unready = 0 }
 
--- what it holds: its reader of the code, its mapping of each page (0 none, 1 read, 2 write), which pages are dirty, of each lock the count of its open pass or none, its trace, its counts
+-- two counts together
+abbrev pub added : Counts → Counts → Counts
+added a b =
+    record {
+      read_faults = (a.read_faults + b.read_faults) % 2 ^ 64;
+      write_faults = (a.write_faults + b.write_faults) % 2 ^ 64;
+      overwrites = (a.overwrites + b.overwrites) % 2 ^ 64;
+      merges = (a.merges + b.merges) % 2 ^ 64;
+      twins = (a.twins + b.twins) % 2 ^ 64;
+      flushes = (a.flushes + b.flushes) % 2 ^ 64;
+      early = (a.early + b.early) % 2 ^ 64;
+      notices = (a.notices + b.notices) % 2 ^ 64;
+      unmaps = (a.unmaps + b.unmaps) % 2 ^ 64;
+      enters = (a.enters + b.enters) % 2 ^ 64;
+      breaks = (a.breaks + b.breaks) % 2 ^ 64;
+      unready = (a.unready + b.unready) % 2 ^ 64;
+    }
+
+-- what it holds: its reader of the code, with its registers and its open passes, its mapping of each page (0 none, 1 read, 2 write), which pages are dirty, its trace, its counts
 pub record Own : Type 0 where
   pub reader : Reader
   pub maps : List ℕ
   pub dirty : List Bool
-  pub passes : List (Option ℕ)
   pub trace : List Entry
   pub counts : Counts
 
--- at the start it has done nothing; no program has more than 256 pages and 64 locks
+-- at the start it has done nothing; no program has more than 256 pages
 abbrev pub new_own : Own
-new_own = record { reader = new_reader; maps = replicate 256 0; dirty = replicate 256 false; passes = replicate 64 None; trace = []; counts = no_counts }
-
--- the count of its open pass of lock l
-abbrev pub open_pass : Own → ℕ → Option ℕ
-open_pass o l = option_and_then (λ k. k) (slice_get o.passes l)
+new_own = record { reader = new_reader; maps = replicate 256 0; dirty = replicate 256 false; trace = []; counts = no_counts }
 
 -- a pass of a lock opens it, and a signal of the lock closes it
-abbrev pub passes_after : Entry → List (Option ℕ) → List (Option ℕ)
-passes_after (Pass (Lock l) c) passes = slice_set passes l (Some c)
-passes_after (Signal (Lock l) k) passes = slice_set passes l None
-passes_after _ passes = passes
+abbrev pub reader_after : Entry → Reader → Reader
+reader_after (Pass (Lock l) c) r = opened r l c
+reader_after (Signal (Lock l) k) r = closed r l
+reader_after _ r = r
 
 -- an entry more
 abbrev pub appended : Own → Entry → Own
-appended o e = record o { trace = o.trace ++ e ∷ []; passes = passes_after e o.passes }
+appended o e = record o { trace = o.trace ++ e ∷ []; reader = reader_after e o.reader }
 
 -- an unready look more
 abbrev pub looked_again : Own → Own

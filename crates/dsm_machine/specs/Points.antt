@@ -1,5 +1,5 @@
 -- Where the code's processor stands, and what it then still has to do.
-use Rattle.std.specs.Prelude.{ℕ, ◌^◌, Bool, true}
+use Rattle.std.specs.Prelude.{ℕ, ◌*◌, ◌^◌, ◌<◌, Bool, true}
 use Rattle.dsm_words.specs.declared.item.Item.TheVariants.{Stop}
 use Rattle.dsm_words.specs.Place.{Lay}
 use Rattle.dsm_words.specs.Script.{Get, is_open}
@@ -7,6 +7,8 @@ use Rattle.dsm_sync.specs.declared.counter.Counter.{Counter}
 use Rattle.dsm_sync.specs.declared.counter.Counter.TheVariants.{Barrier, Flag, Close}
 use Rattle.dsm_sync.specs.Counters.{counter_number, counters_of}
 use Rattle.dsm_sync.specs.Locks.{lock_rest, lock_lay}
+use Rattle.dsm_local.specs.declared.action.Action.{Action}
+use Rattle.dsm_local.specs.declared.action.Action.TheVariants.{LoadWord, StoreWord, TakeLock, GiveLock, Meet, RaiseFlag, WaitFlag}
 use Rattle.dsm_machine.specs.declared.head.Head.{Head}
 use Rattle.dsm_machine.specs.declared.head.Head.TheVariants.{Instruction, Locking, Looking}
 use Rattle.dsm_machine.specs.declared.point.Point.{Point}
@@ -72,3 +74,14 @@ slack (At h) = head_slack h
 slack (Trying l lock) = 0
 slack (Heeding again) = head_slack again
 slack _ = 2 ^ 64
+
+-- the word or the object of an action is one that there is
+abbrev pub IsWithinLay : Lay → Action → Type 0
+IsWithinLay l (LoadWord d w) = w < l.pages * l.words
+IsWithinLay l (StoreWord w v) = w < l.pages * l.words
+IsWithinLay l (TakeLock i) = i < l.locks
+IsWithinLay l (GiveLock i k) = i < l.locks
+IsWithinLay l (Meet b) = b < l.barriers
+IsWithinLay l (RaiseFlag f) = f < l.flags
+IsWithinLay l (WaitFlag f need) = f < l.flags
+IsWithinLay l _ = Unit {0}

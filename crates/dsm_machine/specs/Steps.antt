@@ -1,13 +1,12 @@
 -- What a processor does, sentence by sentence.
-use Rattle.std.specs.Prelude.{ℕ, ◌+◌, ◌-◌, ◌*◌, ◌/◌, ◌%◌, ◌^◌, ◌==◌, nat_lt, Bool, false, if◌then◌else◌, List, Option, None, Some, slice_get}
+use Rattle.std.specs.Prelude.{ℕ, ◌+◌, ◌-◌, ◌*◌, ◌/◌, ◌%◌, ◌^◌, ◌==◌, Bool, false, if◌then◌else◌, List, Option, None, Some}
 use Rattle.dsm_entry.specs.declared.entry.Entry.TheVariants.{Load, Store, Signal, Pass, Out}
 use Rattle.dsm_entry.specs.declared.entry.Obj.{Obj}
 use Rattle.dsm_entry.specs.declared.entry.Obj.TheVariants.{Lock as LockOf, Barrier as BarrierOf, Flag as FlagOf, Close as CloseOf}
 use Rattle.dsm_isa.specs.declared.instr.Instr.{Instr}
-use Rattle.dsm_isa.specs.declared.instr.Instr.TheVariants.{Lock, Unlock, Bar, Set as SetFlag, Wait, Waitr}
 use Rattle.dsm_local.specs.declared.action.Action.{Action}
-use Rattle.dsm_local.specs.declared.action.Action.TheVariants.{Set, Jump, LoadWord, StoreWord, Print, Trap, Spend, Arrive}
-use Rattle.dsm_local.specs.Actions.{value, action_of}
+use Rattle.dsm_local.specs.declared.action.Action.TheVariants.{Set, Jump, LoadWord, StoreWord, Print, TakeLock, GiveLock, Meet, RaiseFlag, WaitFlag, Trap, Spend, Arrive}
+use Rattle.dsm_local.specs.Readers.{next_action}
 use Rattle.dsm_words.specs.declared.item.Item.{Item}
 use Rattle.dsm_words.specs.declared.item.Item.TheVariants.{Stop, Frame}
 use Rattle.dsm_words.specs.Place.{processors}
@@ -18,12 +17,11 @@ use Rattle.dsm_sync.specs.declared.got.Got.{Got}
 use Rattle.dsm_sync.specs.declared.got.Got.TheVariants.{Ready, Unready}
 use Rattle.dsm_sync.specs.Counting.{look_script, signal_script}
 use Rattle.dsm_sync.specs.Locks.{lock_script, unlock_script}
-use Rattle.dsm_machine.specs.declared.ending.Ending.{Ending}
-use Rattle.dsm_machine.specs.declared.ending.Ending.TheVariants.{Halted, Trapped, Spent, Looked, Stopped, NoMemory}
-use Rattle.dsm_machine.specs.declared.ending.Fault.TheVariants.{Plain, NotHeld}
+use Rattle.dsm_local.specs.declared.end.End.{End as Ending}
+use Rattle.dsm_local.specs.declared.end.End.TheVariants.{Halted, Trapped, Spent, Looked, Stopped, NoMemory}
 use Rattle.dsm_machine.specs.declared.head.Head.{Head}
 use Rattle.dsm_machine.specs.declared.head.Head.TheVariants.{Instruction, Locking, Looking}
-use Rattle.dsm_machine.specs.Own.{Own, Who, node_of, setting_of, open_pass}
+use Rattle.dsm_machine.specs.Own.{Own, Who, node_of, setting_of}
 use Rattle.dsm_machine.specs.Jobs.{Job, Make, Mark, Ask, Begin, Ended, Give, Go, Move, Append, Count_unready, call}
 
 -- the instruction is done, and the next one begins
@@ -70,10 +68,9 @@ tried_job u l Unready = unready_job u (Locking l)
 abbrev pub lock_job : Who → ℕ → Job
 lock_job u l = call (lock_script l) (tried_job u l)
 
--- unlock l: the lock is given back with the count of its open pass, and where there is none, it stops
-abbrev pub unlock_job : Who → Own → ℕ → Option ℕ → Job
-unlock_job u o l None = stop_job u (Trapped o.reader.place (NotHeld l))
-unlock_job u o l (Some k) = release_job u (call (unlock_script l k) (λ _. Mark (Append (Signal (LockOf l) k)) next_instruction))
+-- unlock l: the lock is given back with the count of its open pass
+abbrev pub unlock_job : Who → ℕ → ℕ → Job
+unlock_job u l k = release_job u (call (unlock_script l k) (λ _. Mark (Append (Signal (LockOf l) k)) next_instruction))
 
 -- the object whose word is looked at
 abbrev pub object_of : Counter → Obj
@@ -108,30 +105,26 @@ arrive_job u of = release_job u (call (signal_script of) (λ a. Mark (Append (Si
 abbrev pub set_job : Who → ℕ → Job
 set_job u f = release_job u (call (signal_script (Flag f)) (λ j. Mark (Append (Signal (FlagOf f) j)) next_instruction))
 
--- an instruction without synchronisation does one operation: the load or store itself, or a load of the stop word whose answer is not used
+-- What each action does. One without synchronisation does one operation: the load or store itself, or a load of the stop word whose answer
+-- is not used.
 abbrev pub action_job : Who → Own → Action → Job
 action_job u o (Set d v) = Make (Get Stop) (λ _. Mark (Give d v) (Begin Instruction))
 action_job u o (Jump to) = Make (Get Stop) (λ _. Mark (Go to) (Begin Instruction))
 action_job u o (LoadWord d w) = Make (Get (address_item u w)) (λ v. Mark (Append (Load w v)) (Mark (Give d v) (Begin Instruction)))
 action_job u o (StoreWord w v) = Make (Put (address_item u w) v) (λ _. Mark (Append (Store w v)) next_instruction)
 action_job u o (Print v) = Make (Get Stop) (λ _. Mark (Append (Out v)) next_instruction)
-action_job u o (Trap kind) = stop_job u (Trapped o.reader.place (Plain kind))
+action_job u o (TakeLock l) = lock_job u l
+action_job u o (GiveLock l k) = unlock_job u l k
+action_job u o (Meet b) = arrive_job u (Barrier b)
+action_job u o (RaiseFlag f) = set_job u f
+action_job u o (WaitFlag f need) = look_job u (Flag f) need
+action_job u o (Trap kind) = stop_job u (Trapped o.reader.place kind)
 action_job u o Spend = stop_job u Spent
 action_job u o Arrive = arrive_job u Close
 
--- an instruction, or past the last one a halt
-abbrev pub instruction_job : Who → Own → Option Instr → Job
-instruction_job u o (Some (Lock l)) = lock_job u l
-instruction_job u o (Some (Unlock l)) = unlock_job u o l (open_pass o l)
-instruction_job u o (Some (Bar b)) = arrive_job u (Barrier b)
-instruction_job u o (Some (SetFlag f)) = set_job u f
-instruction_job u o (Some (Wait f k)) = look_job u (Flag f) k
-instruction_job u o (Some (Waitr f a)) = look_job u (Flag f) (value o.reader a)
-instruction_job u o i = action_job u o (action_of (setting_of u) o.reader i)
-
--- what comes at a head; an instruction begins only where fewer than `turns` are done
+-- what comes at a head: at the first, the action of the instruction at the reader's place
 abbrev pub head_job : Who → List Instr → Head → Job
-head_job u code Instruction = Ask (λ o. if nat_lt o.reader.done u.limits.turns then instruction_job u o (slice_get code o.reader.place) else stop_job u Spent)
+head_job u code Instruction = Ask (λ o. action_job u o (next_action code (setting_of u) o.reader))
 head_job u code (Locking l) = lock_job u l
 head_job u code (Looking of need) = look_job u of need
 

@@ -2,12 +2,8 @@
 #![tactic(auto)]
 
 pub mod counts;
-pub mod ending;
 pub mod head;
 pub mod law;
 pub mod limits;
 pub mod machine;
 pub mod point;
-pub mod processor;
-#[cfg(test)]
-mod tests;

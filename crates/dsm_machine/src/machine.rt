@@ -1,233 +1,197 @@
-ghost use Rattle.std.specs.Prelude.{◌≡◌, ℕ, ◌+◌, ◌<◌, ◌≤◌, ◌^◌, ◌++◌, ◌∷◌, [], None, Some, List, IfSome, IsOk, OnOk};
-ghost use Rattle.dsm_isa.specs.declared.instr.Instr.{Instr as instruction};
-ghost use Rattle.dsm_words.specs.Op.{place_of};
-ghost use Rattle.dsm_local.specs.Readers.{GoesOn, IsInside};
-ghost use Rattle.dsm_machine.specs.Processor.{new_processor, setting_of, next_action, op_of, next_op, after_action, after_pass, after_event, events_left, IsMade, IsLocal};
+ghost use Rattle.std.specs.Prelude.{◌≡◌, ◌+◌, ◌*◌, ◌^◌, ◌<◌, true};
+ghost use Rattle.dsm_words.specs.Place.{lay_of};
+ghost use Rattle.dsm_machine.specs.Points.{point_number, points_of, is_trying, lay_at, slack};
 
-use crate::limits::DEFAULT_TURNS;
-use dsm_entry::entry::{Entry, NoMemory, Obj};
+mod events;
+mod ops;
+#[cfg(test)]
+mod tests;
+
+use crate::counts::Counts;
+use crate::head::Head;
+use crate::limits::Limits;
+use crate::point::Point;
+use dsm_entry::entry::NoMemory;
 use dsm_entry::trace::Trace;
 use dsm_isa::code::Code;
-use dsm_local::action::Action;
-use dsm_local::end::{End, Trap};
+use dsm_local::end::End;
 use dsm_local::reader::Reader;
-use dsm_local::setting::Setting;
+use dsm_words::layout::Layout;
 use dsm_words::op::Op;
 use std::alloc::Global;
-use std::marker::Model;
 
 /// One processor. It makes no operation itself: `next` names its next one, and `after` takes the answer.
 #[derive(Drop)]
 pub struct Machine {
-    words: u32,
+    lay: Layout,
+    p: u32,
+    limits: Limits,
     reader: Reader,
-    arrived: bool,
     trace: Trace,
-    end: Option<End>,
-}
-
-impl Model for Machine {
-    ghost use Rattle.dsm_machine.specs.Seen.{Seen};
-
-    ghost Value = { Seen };
-
-    ghost view = { λ m. record {
-      words = m.words;
-      processor = record {
-        reader = m.reader;
-        arrived = m.arrived;
-        trace = m.trace.list;
-        end = m.end;
-      };
-      spare = m.trace.spare;
-    } };
+    counts: Counts,
+    point: Point,
+    ghost p_in: { p < lay.t.nodes * lay.t.procs },
+    ghost object_in: { point_number point < points_of (lay_of lay) point },
+    ghost trying: { is_trying point ≡ true },
+    ghost lay_is: { lay_at (lay_of lay) point ≡ lay_of lay },
+    ghost place_in: { reader.place + 1 < 2 ^ 32 + slack point },
+    ghost done_in: { reader.done + 1 < 2 ^ 64 + slack point },
 }
 
 impl Machine {
-    /// Processor 0, the only one, with a memory of `words` words. It takes no memory.
-    pub fn new(alloc: Global, p: u32, words: u32) -> Machine
-        requires { p ≡ 0 }
-        ensures words { result.words ≡ words }
-        ensures processor { result.processor ≡ new_processor }
-        ensures spare { result.spare ≡ 0 }
-        ensures made { (code : List instruction) → IsMade words code result.processor }
-        ensures local { (code : List instruction) → IsLocal words code result.processor }
+    ghost use Rattle.std.specs.Prelude.{◌≡◌, ℕ, ◌<◌, None, List, OnOk, OnErr, IsOk, IfSome};
+    ghost use Rattle.dsm_isa.specs.declared.instr.Instr.{Instr as instruction};
+    ghost use Rattle.dsm_isa.specs.Rules.{ObjectsInside};
+    ghost use Rattle.dsm_words.specs.Op.{place_of};
+    ghost use Rattle.dsm_words.specs.Place.{processors, total};
+    ghost use Rattle.dsm_machine.specs.Own.{new_own};
+    ghost use Rattle.dsm_machine.specs.Jobs.{Begin, held_turn};
+    ghost use Rattle.dsm_machine.specs.Processors.{settled, new_processor, ending, next_op, after_answer, wanting, IsMade};
+    ghost use Rattle.dsm_machine.specs.Laws.{IsLocal};
+    ghost use Rattle.dsm_machine.specs.Machines.{who, seen, processor_in, spare_of, HasRoom, sizes_in};
+
+    /// Processor `p`, which has done nothing. It takes no memory.
+    pub fn new(alloc: Global, lay: Layout, p: u32, limits: Limits) -> Machine
+        requires { p < processors (lay_of lay) }
+        ensures who { who result ≡ record { lay = lay_of lay; p = p; limits = limits } }
+        ensures new { (code : List instruction) → processor_in result code ≡ new_processor (who result) code }
+        ensures made { (code : List instruction) → IsMade (who result) code (processor_in result code) }
+        ensures runs { ending (seen result) ≡ None }
+        ensures spare { spare_of result ≡ 0 }
     {
-        let _only = p;
+        Machine::before_all(alloc, lay, p, limits)
+    }
+
+    /// Processor `p` before its first instruction.
+    fn before_all(alloc: Global, lay: Layout, p: u32, limits: Limits) -> Machine
+        requires { p < processors (lay_of lay) }
+        ensures who { who result ≡ record { lay = lay_of lay; p = p; limits = limits } }
+        ensures seen { seen result ≡ settled new_own (Begin Head.Instruction) }
+        ensures spare { spare_of result ≡ 0 }
+    {
         Machine {
-            words,
+            lay,
+            p,
+            limits,
             reader: Reader::new(),
-            arrived: false,
             trace: Trace::new(alloc),
-            end: None,
+            counts: Counts::none(),
+            point: Point::At {
+                head: Head::Instruction,
+            },
         }
     }
 
     /// Makes room for one entry. Where there is room already, it takes no memory.
     pub fn ready(&mut self) -> Result<(), NoMemory>
-        ensures words { self.new.words ≡ self.old.words }
-        ensures processor { self.new.processor ≡ self.old.processor }
-        ensures ok { OnOk result (0 < self.new.spare) }
-        ensures room { 0 < self.old.spare → IsOk result }
+        ensures who { who self.new ≡ who self.old }
+        ensures same { seen self.new ≡ seen self.old }
+        ensures ok { OnOk result (0 < spare_of self.new) }
+        ensures err { OnErr result (spare_of self.new ≡ spare_of self.old) }
+        ensures turn { OnErr result (held_turn (seen self.old).todo ≡ None) }
+        ensures room { 0 < spare_of self.old → IsOk result }
+        ensures spare { 0 < spare_of self.old → spare_of self.new ≡ spare_of self.old }
     {
         self.trace.reserve_one()
     }
 
+    /// For the case that `ready` was refused: in place of its next operation it tells all others to stop. It takes no
+    /// memory.
+    pub fn starve(&mut self)
+        requires runs { ending (seen self.old) ≡ None }
+        requires turn { held_turn (seen self.old).todo ≡ None }
+        ensures who { who self.new ≡ who self.old }
+        ensures starved { (code : List instruction) → processor_in self.new code ≡ wanting (who self.old) true (processor_in self.old code) }
+        ensures made { (code : List instruction) → IsMade (who self.old) code (processor_in self.old code) → IsMade (who self.new) code (processor_in self.new code) }
+        ensures room { HasRoom self.new }
+        ensures spare { spare_of self.new ≡ spare_of self.old }
+    {
+        self.point = Point::Stopping { end: End::NoMemory };
+    }
+
     /// The next operation, and None exactly where the machine has ended. It takes no memory.
     pub fn next(&self, code: &Code) -> Option<Op>
-        ensures op { result ≡ next_op self.now.words code.now self.now.processor }
-        // Its place is that of the stop word or of a word of the memory.
-        ensures within { IfSome result (λ op. place_of op ≤ self.now.words) }
+        requires { ObjectsInside (sizes_in (who self.now).lay) code.now }
+        ensures op { result ≡ next_op (who self.now) (processor_in self.now code.now) }
+        ensures within { IfSome result (λ op. place_of op < total (who self.now).lay) }
     {
-        match self.end {
-            None if self.arrived => Some(Op::Load { at: 0 }),
-            None => Some(op_of(self.action(code))),
-            Some(_) => None,
+        match self.point {
+            Point::At { head } => Some(self.op_at(code, head)),
+            Point::Trying { l: _, lock } => Some(self.op_of_try(lock)),
+            Point::Heeding { again: _ } => Some(self.look_at_stop()),
+            Point::Stopping { end: _ } => Some(self.stop_all()),
+            Point::Over { end: _ } => None,
         }
-    }
-
-    /// What it does next, where it has not arrived.
-    fn action(&self, code: &Code) -> Action
-        ensures value { result ≡ next_action self.now.words code.now self.now.processor }
-        ensures place { GoesOn result → self.now.processor.reader.place + 1 < 2 ^ 32 }
-        ensures done { GoesOn result → self.now.processor.reader.done + 1 < 2 ^ 64 }
-        ensures inside { IsInside self.now.words result }
-    {
-        let setting = Setting {
-            size: self.words,
-            p: 0,
-            procs: 1,
-            turns: DEFAULT_TURNS,
-        };
-        self.reader.next(code, setting)
-    }
-
-    /// Appends an entry to the trace.
-    fn note(&mut self, e: Entry)
-        requires { 0 < self.old.spare }
-        ensures words { self.new.words ≡ self.old.words }
-        ensures processor { self.new.processor ≡ record self.old.processor { trace = self.old.processor.trace ++ e ∷ [] } }
-    {
-        self.trace.push(e);
     }
 
     /// Takes the answer of the next operation. It takes no memory.
     pub fn after(&mut self, code: &Code, got: u64)
-        requires runs { self.old.processor.end ≡ None }
-        requires room { 0 < self.old.spare }
-        // All earlier calls had this code.
-        requires made { IsMade self.old.words code.now self.old.processor }
-        ensures words { self.new.words ≡ self.old.words }
-        ensures event { self.new.processor ≡ after_event self.old.words code.now self.old.processor got }
-        ensures made { IsMade self.new.words code.now self.new.processor }
-        ensures local { IsLocal self.new.words code.now self.new.processor }
-        ensures fewer { events_left self.new.processor < events_left self.old.processor }
+        requires objects { ObjectsInside (sizes_in (who self.old).lay) code.now }
+        requires runs { ending (seen self.old) ≡ None }
+        requires room { HasRoom self.old }
+        ensures who { who self.new ≡ who self.old }
+        ensures event { processor_in self.new code.now ≡ after_answer (who self.old) code.now (processor_in self.old code.now) got }
+        // Where all earlier calls had this code, its trace and end are those of a plain reader.
+        ensures made { IsMade (who self.old) code.now (processor_in self.old code.now) → IsMade (who self.new) code.now (processor_in self.new code.now) }
+        ensures local { IsMade (who self.old) code.now (processor_in self.old code.now) → IsLocal (who self.new) code.now (processor_in self.new code.now) }
     {
-        self.go_on(code, got);
+        self.take_answer(code, got);
     }
 
-    /// Makes the next event.
-    fn go_on(&mut self, code: &Code, got: u64)
-        requires runs { self.old.processor.end ≡ None }
-        requires room { 0 < self.old.spare }
-        ensures words { self.new.words ≡ self.old.words }
-        ensures event { self.new.processor ≡ after_event self.old.words code.now self.old.processor got }
-        ensures fewer { events_left self.new.processor < events_left self.old.processor }
+    /// Takes the answer of the next operation.
+    fn take_answer(&mut self, code: &Code, got: u64)
+        requires objects { ObjectsInside (sizes_in (who self.old).lay) code.now }
+        requires runs { ending (seen self.old) ≡ None }
+        requires room { HasRoom self.old }
+        ensures who { who self.new ≡ who self.old }
+        ensures event { processor_in self.new code.now ≡ after_answer (who self.old) code.now (processor_in self.old code.now) got }
     {
-        if self.arrived {
-            self.leave();
-        } else {
-            self.take(self.action(code), got);
+        match self.point {
+            Point::At { head } => self.begin(code, head, got),
+            Point::Trying { l, lock } => self.tried(l, lock, got),
+            Point::Heeding { again } => self.heed(again, got),
+            Point::Stopping { end } => self.point = Point::Over { end },
+            Point::Over { end: _ } => unreachable!(),
         }
     }
 
-    /// Does an action, given the answer of its operation.
-    fn take(&mut self, action: Action, got: u64)
-        requires room { 0 < self.old.spare }
-        requires place { GoesOn action → self.old.processor.reader.place + 1 < 2 ^ 32 }
-        requires done { GoesOn action → self.old.processor.reader.done + 1 < 2 ^ 64 }
-        ensures words { self.new.words ≡ self.old.words }
-        ensures action { self.new.processor ≡ after_action self.old.processor action got }
-    {
-        match action {
-            Action::Set { d, v } => self.reader = self.reader.given(d, v),
-            Action::Jump { to } => self.reader = self.reader.jumped(to),
-            Action::LoadWord { d, w } => {
-                self.note(Entry::Load { w, v: got });
-                self.reader = self.reader.given(d, got);
-            }
-            Action::StoreWord { w, v } => {
-                self.note(Entry::Store { w, v });
-                self.reader = self.reader.moved();
-            }
-            Action::Print { v } => {
-                self.note(Entry::Out { v });
-                self.reader = self.reader.moved();
-            }
-            Action::Trap { kind } => self.trap(kind),
-            Action::Spend => self.end = Some(End::Spent),
-            Action::Arrive => {
-                self.note(Entry::Signal {
-                    o: Obj::Close,
-                    j: 0,
-                });
-                self.arrived = true;
-            }
-        }
-    }
-
-    /// Ends before an instruction that can't be done.
-    fn trap(&mut self, kind: Trap)
-        ensures words { self.new.words ≡ self.old.words }
-        ensures processor { self.new.processor ≡ record self.old.processor { end = Some (End.Trapped self.old.processor.reader.place kind) } }
-    {
-        self.end = Some(End::Trapped {
-            at: self.reader.place,
-            kind,
-        });
-    }
-
-    /// Passes the closing barrier.
-    fn leave(&mut self)
-        requires { 0 < self.old.spare }
-        ensures words { self.new.words ≡ self.old.words }
-        ensures pass { self.new.processor ≡ after_pass self.old.processor }
-    {
-        self.note(Entry::Pass {
-            o: Obj::Close,
-            c: 1,
-        });
-        self.end = Some(End::Halted);
-    }
-
-    /// How the machine ended, and None exactly where it has not.
+    /// How the machine ended, and None exactly where it has not. It takes no memory.
     pub fn end(&self) -> Option<End>
-        ensures { result ≡ self.now.processor.end }
+        ensures end { result ≡ ending (seen self.now) }
+        ensures begun { (code : List instruction) → result ≡ ending (processor_in self.now code) }
     {
-        self.end
+        match self.point {
+            Point::Over { end } => Some(end),
+            _ => None,
+        }
+    }
+
+    /// How often each thing happened. It takes no memory.
+    pub fn counts(&self) -> Counts
+        ensures { result ≡ (seen self.now).own.counts }
+    {
+        self.counts
+    }
+
+    /// How many instructions are done. It takes no memory.
+    pub fn done(&self) -> u64
+        ensures { result ≡ (seen self.now).own.reader.done }
+    {
+        self.reader.done
     }
 
     /// What it did so far. It takes no memory.
+    pub fn trace(&self) -> &Trace
+        ensures list { result.now.list ≡ (seen self.now).own.trace }
+        ensures spare { result.now.spare ≡ spare_of self.now }
+    {
+        &self.trace
+    }
+
+    /// The trace of a machine that is no longer wanted. It takes no memory.
     pub fn into_trace(self) -> Trace
-        ensures { result.list ≡ self.processor.trace }
+        ensures { result.list ≡ (seen self).own.trace }
     {
         self.trace
-    }
-}
-
-/// The operation that this is: one on the word of its address, or a load of the stop word, at place 0, whose
-/// answer is not used. Word `w` stands at place `1 + w`.
-fn op_of(action: Action) -> Op
-    ensures { result ≡ op_of action }
-{
-    match action {
-        Action::LoadWord { d: _, w } => Op::Load {
-            at: 1 + u64::from(w),
-        },
-        Action::StoreWord { w, v } => Op::Store {
-            at: 1 + u64::from(w),
-            v,
-        },
-        _ => Op::Load { at: 0 },
     }
 }

@@ -1,5 +1,5 @@
-use crate::ending::Ending;
 use crate::head::Head;
+use dsm_local::end::End;
 use dsm_sync::lock::LockTry;
 
 /// Where a processor stands between two events.
@@ -12,6 +12,6 @@ pub enum Point {
     /// Behind an unready look: before the load of the stop word.
     Heeding { again: Head },
     /// Before the exchange of the stop word, with which this end comes.
-    Stopping { end: Ending },
-    Over { end: Ending },
+    Stopping { end: End },
+    Over { end: End },
 }

@@ -1,6 +1,6 @@
-pub mod Moments
-pub mod Memory
 pub mod Pages
+pub mod Running
+pub mod SettingWords
+pub mod Settings
+pub mod Spelling
 pub mod Words
-pub mod Ends
-pub mod Logs

@@ -1,146 +1,144 @@
 -- Which words begin a plan's, and which is the first that doesn't.
-use Rattle.std.proofs.Common.{◌≡◌, ℕ, Bool, IsTrue, Option, sym, ◌∙◌, nat_eq, drop, subst, take-append-drop, ◌+◌, ◌<◌, ◌≤◌, List, [], ◌∷◌, ◌++◌, Some, length, arith, refl, ap, inl, inr, slice_get, codes}
-use Rattle.std.specs.Prelude.{Result, Ok, Err, IfOk, IfErr}
-use Rattle.std.specs.Cmp.Lexicographic.{pointwise}
-use Rattle.std.proofs.lemmas.Bool.Decides.{Decides-eqb}
-use Rattle.std.proofs.lemmas.Slice.Eq.{slice_eq-Decides}
+use Rattle.std.proofs.Common.{◌≡◌, ◌≢◌, ℕ, ◌+◌, ◌-◌, ◌≤◌, List, [], ◌∷◌, ◌++◌, length, take, drop, Option, Some, None, codes, filter_map, refl, sym, ap, ◌∙◌, subst, inl, inr, arith, take-append-drop, append-nil, suc, String, string_bytes, Result, Ok, Err}
+use Rattle.std.specs.Prelude.{slice_index_or, IfErr}
+use Rattle.std.specs.declared.alloc.Global.{Global}
+use Rattle.std.specs.Option.{option_to_list, unwrap_or}
+use Rattle.std.proofs.lemmas.List.Elements.{All-nil}
+use Rattle.dsm_words.specs.declared.topology.Topology.{Topology}
 use Rattle.dsm_top.specs.declared.plans.Plan.{Plan}
 use Rattle.dsm_top.specs.declared.plans.Plan.TheVariants.{Check, List as Listing, Sim}
-use Rattle.dsm_top.specs.Plans.{PlanOf, FirstFault}
+use Rattle.dsm_top.specs.declared.plans.Setting.{Setting}
+use Rattle.dsm_top.specs.Plans.{texts, topology_word, IsInRange, AreSettings, AreSome, turns_in, looks_in, kind_in, steps_in, PlanOf, BeginsPlan, FirstFault, FirstUnset}
+use Rattle.dsm_top.proofs.SettingWords.{AreSettings-before}
 
--- the words of a plan: the first, and those behind it
-abbrev pub name_of : Plan → List ℕ
-name_of Check = codes "check"
-name_of Listing = codes "list"
-name_of Sim = codes "sim"
+-- what is given, or the default
+pub in-given : {A : Type 0} (of : Setting → Option A) (settings : List Setting) (o : Option A) (d : A) → filter_map of settings ≡ option_to_list o → slice_index_or (filter_map of settings) 0 d ≡ unwrap_or o d
+in-given of settings None d given = ap (λ xs. slice_index_or xs 0 d) given
+in-given of settings (Some x) d given = ap (λ xs. slice_index_or xs 0 d) given
 
-abbrev one_by_one : List ℕ
-one_by_one = codes "1x1"
+-- the plan to simulate this cluster with these settings
+abbrev pub simulation_of : Topology → List Setting → Plan
+simulation_of t settings = Sim t (record { turns = turns_in settings; looks = Some (looks_in settings) }) (kind_in settings) (steps_in settings)
 
-abbrev pub rest_of : Plan → List (List ℕ)
-rest_of Check = []
-rest_of Listing = []
-rest_of Sim = one_by_one ∷ []
+pub simulation-asked : (t : Topology) → t.nodes ≡ 1 → (words : List (List ℕ)) (settings : List Setting) → AreSettings words settings → PlanOf (codes "sim" ∷ topology_word t ∷ words) (simulation_of t settings)
+simulation-asked t one words settings are = record { others = words; settings = settings; spelt = refl; one_node = one; set = are; given_limits = refl; given_kind = refl; given_steps = refl }
 
-asked-words : (words : List (List ℕ)) (p : Plan) → PlanOf words p → words ≡ name_of p ∷ rest_of p
-asked-words words Check h = h
-asked-words words Listing h = h
-asked-words words Sim h = h
+-- the smallest cluster, and no settings
+one_by_one : Topology
+one_by_one = record { nodes = 1; procs = 1; some_nodes = omega arith; most_nodes = omega arith; some_procs = omega arith; most_procs = omega arith; most_all = omega arith }
 
-pub words-asked : (words : List (List ℕ)) (p : Plan) → words ≡ name_of p ∷ rest_of p → PlanOf words p
-words-asked words Check h = h
-words-asked words Listing h = h
-words-asked words Sim h = h
+no_settings : AreSettings [] []
+no_settings = record { spelt = refl; in_range = All-nil IsInRange; differ = λ i j d lower upper. absurd (omega arith) }
+
+-- the name of a plan's command
+abbrev command_of : Plan → List ℕ
+command_of Check = codes "check"
+command_of Listing = codes "list"
+command_of (Sim t limits kind steps) = codes "sim"
+
+command-first : (x : List ℕ) (words : List (List ℕ)) (p : Plan) → PlanOf (x ∷ words) p → x ≡ command_of p
+command-first x words Check h = cc
+command-first x words Listing h = cc
+command-first x words (Sim t limits kind steps) h = let spelt = h.spelt in cc
 
 none_is_a_plan : (p : Plan) → PlanOf [] p → ⊥
 none_is_a_plan Check h = cc h
 none_is_a_plan Listing h = cc h
-none_is_a_plan Sim h = cc h
+none_is_a_plan (Sim t limits kind steps) h = cc (h.spelt)
 
--- words that begin a plan's have its name first
-named : (x : List ℕ) (words : List (List ℕ)) (p : Plan) → PlanOf (x ∷ words) p → x ≡ name_of p
-named x words p h = let same : x ∷ words ≡ name_of p ∷ rest_of p = asked-words (x ∷ words) p h in cc
+-- only `sim` has words behind it
+sim-longer : (x y : List ℕ) (words : List (List ℕ)) (p : Plan) → PlanOf (x ∷ y ∷ words) p → x ≡ codes "sim"
+sim-longer x y words Check h = absurd (cc h)
+sim-longer x y words Listing h = absurd (cc h)
+sim-longer x y words (Sim t limits kind steps) h = let spelt = h.spelt in cc
 
--- the plan `sim` alone has this name
-only_sim : (words : List (List ℕ)) (p : Plan) → PlanOf (codes "sim" ∷ words) p → words ≡ one_by_one ∷ []
-only_sim words Check h = absurd (cc h)
-only_sim words Listing h = absurd (cc h)
-only_sim words Sim h = cc h
+-- no words, and a first word that is no command
+pub fault-no_words : FirstFault [] 1
+fault-no_words = record { numbered = omega arith; before = (codes "check" ∷ [], Check, refl); fault = inr (refl, none_is_a_plan) }
 
--- a word that is the name of no plan
-no_name : (o : Option (List ℕ)) → (o ≡ Some (codes "check") → ⊥) → (o ≡ Some (codes "list") → ⊥) → (o ≡ Some (codes "sim") → ⊥) → (p : Plan) → o ≡ Some (name_of p) → ⊥
-no_name o check list sim Check is = check is
-no_name o check list sim Listing is = list is
-no_name o check list sim Sim is = sim is
+no_command : (x : List ℕ) → x ≢ codes "check" → x ≢ codes "list" → x ≢ codes "sim" → (p : Plan) → x ≢ command_of p
+no_command x check list sim Check is = check is
+no_command x check list sim Listing is = list is
+no_command x check list sim (Sim t limits kind steps) is = sim is
 
-pub fault-at_first : (words : List (List ℕ)) → (slice_get words 0 ≡ Some (codes "check") → ⊥) → (slice_get words 0 ≡ Some (codes "list") → ⊥) → (slice_get words 0 ≡ Some (codes "sim") → ⊥) → FirstFault words 1
-fault-at_first [] check list sim = record { numbered = omega arith; before = (codes "check" ∷ [], Check, refl); fault = inr (refl, none_is_a_plan) }
-fault-at_first (x ∷ words) check list sim = record {
+pub fault-no_command : (x : List ℕ) (words : List (List ℕ)) → x ≢ codes "check" → x ≢ codes "list" → x ≢ codes "sim" → FirstFault (x ∷ words) 1
+fault-no_command x words check list sim = record {
   numbered = omega arith;
   before = (codes "check" ∷ [], Check, refl);
-  fault = inl (omega arith, λ b. no_name (Some x) check list sim b.1 (ap Some (named x b.0 b.1 b.2)));
+  fault = inl (omega arith, λ (more, p, h). no_command x check list sim p (command-first x more p h));
 }
 
-pub fault-at_second : (words : List (List ℕ)) → slice_get words 0 ≡ Some (codes "sim") → (slice_get words 1 ≡ Some one_by_one → ⊥) → FirstFault words 2
-fault-at_second [] first other = absurd (cc first)
-fault-at_second (x ∷ []) first other =
-    let is : x ≡ codes "sim" = cc in
+-- a word behind a command of one word
+pub fault-behind : (x y : List ℕ) (words : List (List ℕ)) (p : Plan) → PlanOf (x ∷ []) p → x ≢ codes "sim" → FirstFault (x ∷ y ∷ words) 2
+fault-behind x y words p alone other = record {
+  numbered = omega arith;
+  before = ([], p, alone);
+  fault = inl (omega arith, λ (more, q, h). other (sim-longer x y more q h));
+}
+
+-- `sim` with no word behind it, and with one that is no topology
+begins_sim : BeginsPlan (codes "sim" ∷ [])
+unfolding one_by_one
+begins_sim = (topology_word one_by_one ∷ [], simulation_of one_by_one [], simulation-asked one_by_one refl [] [] no_settings)
+
+sim-alone : (p : Plan) → PlanOf (codes "sim" ∷ []) p → ⊥
+sim-alone Check h = cc h
+sim-alone Listing h = cc h
+sim-alone (Sim t limits kind steps) h = cc (h.spelt)
+
+pub fault-sim_alone : FirstFault (codes "sim" ∷ []) 2
+fault-sim_alone = record { numbered = omega arith; before = begins_sim; fault = inr (refl, sim-alone) }
+
+topology-second : (y : List ℕ) (words : List (List ℕ)) (p : Plan) → PlanOf (codes "sim" ∷ y ∷ words) p → (t : Topology) × (t.nodes ≡ 1) × (y ≡ topology_word t)
+topology-second y words Check h = absurd (cc h)
+topology-second y words Listing h = absurd (cc h)
+topology-second y words (Sim t limits kind steps) h = (t, h.one_node, let spelt = h.spelt in cc)
+
+pub fault-topology : (y : List ℕ) (words : List (List ℕ)) → ((t : Topology) → t.nodes ≡ 1 → y ≡ topology_word t → ⊥) → FirstFault (codes "sim" ∷ y ∷ words) 2
+fault-topology y words none = record {
+  numbered = omega arith;
+  before = begins_sim;
+  fault = inl (omega arith, λ (more, p, h). let (t, one, is) = topology-second y more p h in none t one is);
+}
+
+-- a word behind the topology that sets nothing, or what one before it does
+settings-behind : (y : List ℕ) (words : List (List ℕ)) (p : Plan) → PlanOf (codes "sim" ∷ y ∷ words) p → AreSome words
+settings-behind y words Check h = absurd (cc h)
+settings-behind y words Listing h = absurd (cc h)
+settings-behind y words (Sim t limits kind steps) h = let spelt = h.spelt in let same : h.others ≡ words = cc in (h.settings, subst (λ ws. AreSettings ws h.settings) same h.set)
+
+pub fault-setting : (t : Topology) → t.nodes ≡ 1 → (words : List (List ℕ)) (k : ℕ) → FirstUnset words k → FirstFault (codes "sim" ∷ topology_word t ∷ words) (k + 2)
+fault-setting t one words k f =
+    let shorter : k + 2 - 1 ≡ suc (suc (k - 1)) = omega (arith, f.numbered) in
+    let longer : k + 2 ≡ suc (suc k) = omega arith in
+    let (settings, are) = f.before in
+    let words_before = take (k - 1) words in
     record {
       numbered = omega arith;
-      before = (one_by_one ∷ [], Sim, ap (λ w. w ∷ one_by_one ∷ []) is);
-      fault = inr (refl, λ p h. let none : [] ≡ one_by_one ∷ [] = only_sim [] p (subst (λ w. PlanOf (w ∷ []) p) is h) in cc);
-    }
-fault-at_second (x ∷ y ∷ words) first other =
-    let is : x ≡ codes "sim" = cc in
-    record {
-      numbered = omega arith;
-      before = (one_by_one ∷ [], Sim, ap (λ w. w ∷ one_by_one ∷ []) is);
-      fault = inl (omega arith, λ b. let same : y ∷ b.0 ≡ one_by_one ∷ [] = only_sim (y ∷ b.0) b.1 (subst (λ w. PlanOf (w ∷ y ∷ b.0) b.1) is b.2) in let second : y ≡ one_by_one = cc in other (ap Some second));
+      before = rw shorter ([], simulation_of t settings, simulation-asked t one (words_before ++ []) settings (subst (λ ws. AreSettings ws settings) (sym (append-nil words_before)) are));
+      fault = inl (
+        omega (arith, f.within),
+        rw longer (λ (more, p, h).
+            let (others, set) = settings-behind (topology_word t) (take k words ++ more) p h in
+            f.fault (take (length (take k words)) others, AreSettings-before (take k words) more others set)),
+      );
     }
 
--- no plan's words go on behind those of another
-no_further : (p q : Plan) (z : List ℕ) (more : List (List ℕ)) → PlanOf (name_of p ∷ rest_of p ++ z ∷ more) q → ⊥
-no_further Check Check z more h = cc h
-no_further Check Listing z more h = cc h
-no_further Check Sim z more h = cc h
-no_further Listing Check z more h = cc h
-no_further Listing Listing z more h = cc h
-no_further Listing Sim z more h = cc h
-no_further Sim Check z more h = cc h
-no_further Sim Listing z more h = cc h
-no_further Sim Sim z more h = cc h
+-- the texts of words, by the first of them
+pub no_texts : (words : List (String Global)) → length words ≡ 0 → texts words ≡ []
+no_texts [] none = refl
+no_texts (word ∷ words) none = absurd (omega (arith, none))
 
--- words that a plan's words begin, and that go on
-pub fault-behind : (p : Plan) (z : List ℕ) (more : List (List ℕ)) → FirstFault (name_of p ∷ rest_of p ++ z ∷ more) (length (rest_of p) + 2)
-fault-behind Check z more = record { numbered = omega arith; before = ([], Check, refl); fault = inl (omega arith, λ b. no_further Check b.1 z b.0 b.2) }
-fault-behind Listing z more = record { numbered = omega arith; before = ([], Listing, refl); fault = inl (omega arith, λ b. no_further Listing b.1 z b.0 b.2) }
-fault-behind Sim z more = record { numbered = omega arith; before = ([], Sim, refl); fault = inl (omega arith, λ b. no_further Sim b.1 z b.0 b.2) }
+pub texts-cons : (words : List (String Global)) (word : String Global) (rest : List (String Global)) (bytes : List ℕ) → words ≡ word ∷ rest → bytes ≡ string_bytes word → texts words ≡ bytes ∷ texts rest
+texts-cons words word rest bytes cut is = ap texts cut ∙ ap (λ w. w ∷ texts rest) (sym is)
 
--- a command of one word: asked for where the words end behind it, and else the second is faulty
-pub one_word : (p : Plan) (words : List (List ℕ)) → rest_of p ≡ [] → slice_get words 0 ≡ Some (name_of p) → length words ≤ 1 → PlanOf words p
-one_word p [] alone first short = absurd (cc first)
-one_word p (x ∷ []) alone first short = words-asked (x ∷ []) p (let is : x ≡ name_of p = cc in rw (alone, is) refl)
-one_word p (x ∷ y ∷ words) alone first short = absurd (omega (arith, short))
-
-pub one_word-further : (p : Plan) (words : List (List ℕ)) → rest_of p ≡ [] → slice_get words 0 ≡ Some (name_of p) → 1 < length words → FirstFault words 2
-one_word-further p [] alone first long = absurd (cc first)
-one_word-further p (x ∷ []) alone first long = absurd (omega (arith, long))
-one_word-further p (x ∷ y ∷ words) alone first long =
-    let is : x ≡ name_of p = cc in
-    rw is (rw alone at (fault-behind p y words))
-
--- the two words of `sim`
-pub two_words : (words : List (List ℕ)) → slice_get words 0 ≡ Some (codes "sim") → slice_get words 1 ≡ Some one_by_one → length words ≤ 2 → PlanOf words Sim
-two_words [] first second short = absurd (cc first)
-two_words (x ∷ []) first second short = absurd (cc second)
-two_words (x ∷ y ∷ []) first second short = cc
-two_words (x ∷ y ∷ z ∷ words) first second short = absurd (omega (arith, short))
-
-pub two_words-further : (words : List (List ℕ)) → slice_get words 0 ≡ Some (codes "sim") → slice_get words 1 ≡ Some one_by_one → 2 < length words → FirstFault words 3
-two_words-further [] first second long = absurd (cc first)
-two_words-further (x ∷ []) first second long = absurd (cc second)
-two_words-further (x ∷ y ∷ []) first second long = absurd (omega (arith, long))
-two_words-further (x ∷ y ∷ z ∷ words) first second long =
-    let is : x ≡ codes "sim" = cc in
-    let also : y ≡ one_by_one = cc in
-    rw (is, also) (fault-behind Sim z words)
+-- the answer where a command has to stand alone
+pub alone-fault : (x : List ℕ) (words : List (String Global)) (p : Plan) → PlanOf (x ∷ []) p → x ≢ codes "sim" → (r : Result Plan ℕ) → IfErr r (λ k. (k ≡ 2) × (1 ≤ length words)) → IfErr r (λ k. FirstFault (x ∷ texts words) k)
+alone-fault x words p alone other (Ok q) h = tt
+alone-fault x [] p alone other (Err k) h = absurd (omega (arith, h.1))
+alone-fault x (word ∷ words) p alone other (Err k) h = subst (FirstFault (x ∷ texts (word ∷ words))) (sym h.0) (fault-behind x (string_bytes word) (texts words) p alone other)
 
 -- words with a first fault ask for no plan
 pub none-PlanOf : (words : List (List ℕ)) (k : ℕ) → FirstFault words k → (p : Plan) → PlanOf words p → ⊥
 none-PlanOf words k f p plan =
     elim f.fault [ inl h ↦ h.1 (drop k words, p, subst (λ w. PlanOf w p) (sym (take-append-drop k words)) plan) | inr h ↦ h.1 p plan ]
-
--- the plan where the words end there, and the fault where they go on
-pub asked_if : (words : List (List ℕ)) (p : Plan) (count n : ℕ) (r : Result Plan ℕ) → n ≡ length words → (length words ≤ count → PlanOf words p) → IfOk r (λ q. (q ≡ p) × (n ≤ count)) → IfOk r (λ q. PlanOf words q)
-asked_if words p count n (Ok q) same asked h = subst (PlanOf words) (sym h.0) (asked (omega (arith, same, h.1)))
-asked_if words p count n (Err k) same asked h = tt
-
-pub faulty_if : (words : List (List ℕ)) (count n : ℕ) (r : Result Plan ℕ) → n ≡ length words → (count < length words → FirstFault words (count + 1)) → IfErr r (λ k. (k ≡ count + 1) × (count < n)) → IfErr r (λ k. FirstFault words k)
-faulty_if words count n (Ok q) same fault h = tt
-faulty_if words count n (Err k) same fault h = subst (FirstFault words) (sym h.0) (fault (omega (arith, same, h.1)))
-
--- what stands there is this word exactly where the test says so
-pub found_word : (found word : List ℕ) (r : Bool) → r ≡ pointwise nat_eq found word → (o : Option (List ℕ)) → o ≡ Some found → (IsTrue r → o ≡ Some word) × (o ≡ Some word → IsTrue r)
-found_word found word r test o is =
-    let d = slice_eq-Decides Decides-eqb found word r test in
-    (λ yes. is ∙ ap Some (d.0 yes), λ there. let same : found ≡ word = cc in d.1 same)

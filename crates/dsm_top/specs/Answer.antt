@@ -1,23 +1,23 @@
 -- What the top call read, and what it wrote.
-use Rattle.std.specs.Prelude.{◌≡◌, ℕ, ◌≤◌, ◌⊎◌, List, [], ◌∷◌, length, codes, Option, None, Some}
+use Rattle.std.specs.Prelude.{◌≡◌, ℕ, ◌≤◌, ◌⊎◌, List, length, codes, Option, None, Some}
 use Rattle.std.specs.Io.KnownBytes.{Appends, Consumes, IsAtEnd}
 use Rattle.dsm_isa.specs.ProgramText.{ProgramText}
 use Rattle.dsm_grammar.specs.declared.fault.AsmKind.{AsmKind}
 use Rattle.dsm_grammar.specs.Faults.{first_fault_of}
 use Rattle.dsm_grammar.specs.Grammar.{program_of}
 use Rattle.dsm_list.specs.Canonical.{canonical, shape_line}
-use Rattle.dsm_local.specs.declared.end.End.{End}
-use Rattle.dsm_local.specs.declared.end.End.TheVariants.{Trapped, Spent}
-use Rattle.dsm_local.specs.declared.end.Trap.{Trap}
+use Rattle.dsm_words.specs.declared.topology.Topology.{Topology}
+use Rattle.dsm_machine.specs.declared.limits.Limits.{Limits}
+use Rattle.dsm_core.specs.Outcomes.{Ran}
+use Rattle.dsm_sched.specs.declared.kind.Kind.{Kind}
 use Rattle.dsm_io.specs.Faults.{Rose}
 use Rattle.dsm_io.specs.Whole.{AppendsPrefix, ConsumesSome}
 use Rattle.dsm_top.specs.declared.plans.Plan.{Plan}
 use Rattle.dsm_top.specs.declared.plans.Plan.TheVariants.{Check, List as Listing, Sim}
 use Rattle.dsm_top.specs.declared.reading.Unread.{Unread}
 use Rattle.dsm_top.specs.declared.reading.Unread.TheVariants.{Fault, TooLong, Refused, NoMemory}
-use Rattle.dsm_top.specs.Account.{Account}
 use Rattle.dsm_top.specs.Plans.{PlanOf}
-use Rattle.dsm_top.specs.Run.{Runs, IsFlatRun}
+use Rattle.dsm_top.specs.Run.{Runs}
 use Rattle.dsm_top.specs.Report.{report, refused_line, kind_name}
 
 -- the text was read to the end of the source, and is no longer than 65,536 bytes
@@ -62,20 +62,31 @@ abbrev pub RefusesAndWrites : Option (List ℕ) → Option (List ℕ) → Option
 RefusesAndWrites left_old left_new old new faults_old faults_new = (line : List ℕ) × RefusesText left_old left_new line × WritesLine old new faults_old faults_new line
 
 -- The whole answer of a plan for a program, and what its run left where it is run.
-abbrev pub Answers : Plan → ProgramText → Option Account → List ℕ → Type 0
+abbrev pub Answers : Plan → ProgramText → Option Ran → List ℕ → Type 0
 Answers Check p ran bytes = (ran ≡ None) × (bytes ≡ shape_line p)
 Answers Listing p ran bytes = (ran ≡ None) × (bytes ≡ canonical p)
-Answers Sim p (Some a) bytes = Runs p a × IsFlatRun p a × (bytes ≡ report p.shape a)
-Answers Sim p None bytes = ⊥
+Answers (Sim t limits kind steps) p (Some ran) bytes = Runs t limits kind steps p ran × (bytes ≡ report t p.shape ran)
+Answers (Sim t limits kind steps) p None bytes = ⊥
 
 -- the words ask for a plan, the text that was read stands for a program, and this is the answer
-pub record Accepts (words : List (List ℕ)) (old new : Option (List ℕ)) (ran : Option Account) (bytes : List ℕ) : Type 0 where
+pub record Accepts (words : List (List ℕ)) (old new : Option (List ℕ)) (ran : Option Ran) (bytes : List ℕ) : Type 0 where
   pub plan : Plan
   pub asked : PlanOf words plan
   pub program : ProgramText
   pub read : ReadsProgram old new program
   pub answers : Answers plan program ran bytes
 
--- the one processor was stopped: at an instruction that it can't do, or since it had done as many as it may
-abbrev pub IsStopped : List (Option End) → Type 0
-IsStopped ends = ((place : ℕ) × (kind : Trap) × (ends ≡ Some (Trapped place kind) ∷ [])) ⊎ (ends ≡ Some Spent ∷ [])
+-- the words ask to run the program
+abbrev pub AskToRun : List (List ℕ) → Type 0
+AskToRun words = (t : Topology) × (limits : Limits) × (kind : Kind) × (steps : ℕ) × PlanOf words (Sim t limits kind steps)
+
+-- they do, the text that was read stands for a program, and this is what its run left
+pub record HasRun (words : List (List ℕ)) (old new : Option (List ℕ)) (ran : Ran) : Type 0 where
+  pub t : Topology
+  pub limits : Limits
+  pub kind : Kind
+  pub steps : ℕ
+  pub asked : PlanOf words (Sim t limits kind steps)
+  pub program : ProgramText
+  pub read : ReadsProgram old new program
+  pub runs : Runs t limits kind steps program ran

@@ -1,4 +1,3 @@
-pub mod Account
 pub mod Answer
 pub mod Plans
 pub mod Report

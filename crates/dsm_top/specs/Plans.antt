@@ -1,18 +1,108 @@
 -- The words of the command line, and the plans that they stand for.
-use Rattle.std.specs.Prelude.{◌≡◌, ℕ, ◌+◌, ◌-◌, ◌≤◌, ◌⊎◌, List, [], ◌∷◌, ◌++◌, length, map, take, codes, String, string_bytes}
+use Rattle.std.specs.Prelude.{◌≡◌, ◌≢◌, ℕ, ◌+◌, ◌-◌, ◌≤◌, ◌⊎◌, List, [], ◌∷◌, ◌++◌, length, map, take, filter_map, slice_index_or, All, AllPairs, Option, Some, None, codes, decimal, String, string_bytes}
+use Rattle.std.specs.Option.{option_to_list}
 use Rattle.std.specs.declared.alloc.Global.{Global}
+use Rattle.dsm_words.specs.Counts.{IsFrom1To}
+use Rattle.dsm_words.specs.declared.topology.Topology.{Topology}
+use Rattle.dsm_machine.specs.declared.limits.Limits.{Limits}
+use Rattle.dsm_sched.specs.declared.kind.Kind.{Kind}
+use Rattle.dsm_sched.specs.declared.kind.Kind.TheVariants.{Round}
+use Rattle.dsm_top.specs.declared.planning.Given.{Given}
 use Rattle.dsm_top.specs.declared.plans.Plan.{Plan}
 use Rattle.dsm_top.specs.declared.plans.Plan.TheVariants.{Check, List as Listing, Sim}
+use Rattle.dsm_top.specs.declared.plans.Setting.{Setting}
+use Rattle.dsm_top.specs.declared.plans.Setting.TheVariants.{Kind as OfKind, Turns, Looks, Steps}
+use Rattle.dsm_top.specs.declared.plans.TheConstants.{MOST_TURNS, DEFAULT_TURNS, MOST_LOOKS, DEFAULT_LOOKS, MOST_STEPS, DEFAULT_STEPS}
 
 -- the bytes of each word
 abbrev pub texts : List (String Global) → List (List ℕ)
 texts words = map string_bytes words
 
+-- a topology as a word
+abbrev pub topology_word : Topology → List ℕ
+topology_word t = decimal t.nodes ++ codes "x" ++ decimal t.procs
+
+-- the name of what a setting sets
+abbrev pub name_of : Setting → List ℕ
+name_of (OfKind kind) = codes "kind"
+name_of (Turns n) = codes "turns"
+name_of (Looks n) = codes "looks"
+name_of (Steps n) = codes "steps"
+
+-- the name of a kind
+abbrev pub kind_name : Kind → List ℕ
+kind_name Round = codes "round"
+
+-- the value that a setting gives it
+abbrev pub value_of : Setting → List ℕ
+value_of (OfKind kind) = kind_name kind
+value_of (Turns n) = decimal n
+value_of (Looks n) = decimal n
+value_of (Steps n) = decimal n
+
+-- a setting as a word
+abbrev pub word_of : Setting → List ℕ
+word_of setting = name_of setting ++ codes "=" ++ value_of setting
+
+-- the value is one that it may have
+abbrev pub IsInRange : Setting → Type 0
+IsInRange (OfKind kind) = Unit {0}
+IsInRange (Turns n) = IsFrom1To MOST_TURNS n
+IsInRange (Looks n) = IsFrom1To MOST_LOOKS n
+IsInRange (Steps n) = IsFrom1To MOST_STEPS n
+
+-- the words are these settings, each in its range, and no two of the same name
+pub record AreSettings (words : List (List ℕ)) (settings : List Setting) : Type 0 where
+  pub spelt : words ≡ map word_of settings
+  pub in_range : All IsInRange settings
+  pub differ : AllPairs (λ a b. name_of a ≢ name_of b) settings
+
+-- what a setting of each name gives
+abbrev pub kind_of : Setting → Option Kind
+kind_of (OfKind kind) = Some kind
+kind_of _ = None
+
+abbrev pub turns_of : Setting → Option ℕ
+turns_of (Turns n) = Some n
+turns_of _ = None
+
+abbrev pub looks_of : Setting → Option ℕ
+looks_of (Looks n) = Some n
+looks_of _ = None
+
+abbrev pub steps_of : Setting → Option ℕ
+steps_of (Steps n) = Some n
+steps_of _ = None
+
+-- what the settings give, or the default where none does
+abbrev pub kind_in : List Setting → Kind
+kind_in settings = slice_index_or (filter_map kind_of settings) 0 Round
+
+abbrev pub turns_in : List Setting → ℕ
+turns_in settings = slice_index_or (filter_map turns_of settings) 0 DEFAULT_TURNS
+
+abbrev pub looks_in : List Setting → ℕ
+looks_in settings = slice_index_or (filter_map looks_of settings) 0 DEFAULT_LOOKS
+
+abbrev pub steps_in : List Setting → ℕ
+steps_in settings = slice_index_or (filter_map steps_of settings) 0 DEFAULT_STEPS
+
+-- the words are `sim`, a cluster of one node and settings, which give these limits
+pub record AskForSim (words : List (List ℕ)) (t : Topology) (limits : Limits) (kind : Kind) (steps : ℕ) : Type 0 where
+  pub others : List (List ℕ)
+  pub settings : List Setting
+  pub spelt : words ≡ codes "sim" ∷ topology_word t ∷ others
+  pub one_node : t.nodes ≡ 1
+  pub set : AreSettings others settings
+  pub given_limits : limits ≡ record { turns = turns_in settings; looks = Some (looks_in settings) }
+  pub given_kind : kind ≡ kind_in settings
+  pub given_steps : steps ≡ steps_in settings
+
 -- these words ask for this plan
 abbrev pub PlanOf : List (List ℕ) → Plan → Type 0
 PlanOf words Check = words ≡ codes "check" ∷ []
 PlanOf words Listing = words ≡ codes "list" ∷ []
-PlanOf words Sim = words ≡ codes "sim" ∷ codes "1x1" ∷ []
+PlanOf words (Sim t limits kind steps) = AskForSim words t limits kind steps
 
 -- some plan's words begin with these
 abbrev pub BeginsPlan : List (List ℕ) → Type 0
@@ -24,3 +114,25 @@ pub record FirstFault (words : List (List ℕ)) (k : ℕ) : Type 0 where
   pub numbered : 1 ≤ k
   pub before : BeginsPlan (take (k - 1) words)
   pub fault : ((k ≤ length words) × (BeginsPlan (take k words) → ⊥)) ⊎ ((k ≡ length words + 1) × ((p : Plan) → PlanOf words p → ⊥))
+
+-- the words are some settings
+abbrev pub AreSome : List (List ℕ) → Type 0
+AreSome words = (settings : List Setting) × AreSettings words settings
+
+-- this is all that the settings give
+pub record IsGivenBy (given : Given) (settings : List Setting) : Type 0 where
+  pub kind : filter_map kind_of settings ≡ option_to_list given.kind
+  pub turns : filter_map turns_of settings ≡ option_to_list given.turns
+  pub looks : filter_map looks_of settings ≡ option_to_list given.looks
+  pub steps : filter_map steps_of settings ≡ option_to_list given.steps
+
+-- the words are settings that give this
+abbrev pub Give : List (List ℕ) → Given → Type 0
+Give words given = (settings : List Setting) × AreSettings words settings × IsGivenBy given settings
+
+-- the word of this number, from 1, is the first with which the words are no settings
+pub record FirstUnset (words : List (List ℕ)) (k : ℕ) : Type 0 where
+  pub numbered : 1 ≤ k
+  pub within : k ≤ length words
+  pub before : AreSome (take (k - 1) words)
+  pub fault : AreSome (take k words) → ⊥

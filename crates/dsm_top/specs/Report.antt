@@ -7,19 +7,21 @@ use Rattle.dsm_entry.specs.declared.entry.Entry.TheVariants.{Out}
 use Rattle.dsm_local.specs.declared.end.End.{End}
 use Rattle.dsm_local.specs.declared.end.End.TheVariants.{Halted, Trapped, Spent, Looked, Stopped, NoMemory}
 use Rattle.dsm_local.specs.declared.end.Trap.{Trap}
-use Rattle.dsm_local.specs.declared.end.Trap.TheVariants.{Address, DivideByZero, Later}
+use Rattle.dsm_local.specs.declared.end.Trap.TheVariants.{Address, NotHeld, DivideByZero}
 use Rattle.dsm_grammar.specs.declared.fault.Bound.{Bound}
 use Rattle.dsm_grammar.specs.declared.fault.Bound.TheVariants.{Pages, Words, Locks, Barriers, Flags, Address as AnAddress, Lock, Barrier, Flag, Code}
 use Rattle.dsm_grammar.specs.declared.fault.AsmKind.{AsmKind}
 use Rattle.dsm_grammar.specs.declared.fault.AsmKind.TheVariants.{NotAscii, LongLine, DoubleLabel, UnknownWord, DirectiveLate, BadOperand, BadRegister, BadNumber, NoLabel, Limit, NoCode}
 use Rattle.dsm_list.specs.Lines.{line}
-use Rattle.dsm_top.specs.Account.{Account}
+use Rattle.dsm_words.specs.declared.topology.Topology.{Topology}
+use Rattle.dsm_core.specs.Outcomes.{Ran}
+use Rattle.dsm_top.specs.Plans.{topology_word}
 
 -- what a processor could not do, in words
 abbrev pub trap_words : Trap → List (List ℕ)
 trap_words (Address w) = codes "address" ∷ decimal w ∷ []
+trap_words (NotHeld l) = codes "notheld" ∷ decimal l ∷ []
 trap_words DivideByZero = codes "zero" ∷ []
-trap_words Later = codes "later" ∷ []
 
 -- how a processor ended, in words
 abbrev pub end_words : Option End → List (List ℕ)
@@ -54,8 +56,8 @@ abbrev pub page_lines : Sizes → List ℕ → List ℕ
 page_lines shape words = flat_map (page_line shape.words words) (range_with_len 0 shape.pages)
 
 -- the report: the cluster, the ends, what was printed, and the pages with their words
-unfoldable pub report : Sizes → Account → List ℕ
-report shape a = line (codes "cashmere" ∷ codes "1x1" ∷ []) ++ end_lines 0 a.ends ++ out_lines 0 a.traces ++ page_lines shape a.pages
+unfoldable pub report : Topology → Sizes → Ran → List ℕ
+report t shape ran = line (codes "cashmere" ∷ topology_word t ∷ []) ++ end_lines 0 ran.ends ++ out_lines 0 ran.traces ++ page_lines shape ran.pages
 
 -- the answer to words that ask for no plan: the number of the first faulty one
 unfoldable pub refused_word : ℕ → List ℕ

@@ -1,13 +1,20 @@
-ghost use Rattle.std.specs.Prelude.{IfOk};
+ghost use Rattle.std.specs.Prelude.{◌≡◌, IfOk};
+ghost use Rattle.dsm_core.specs.Setups.{IsSetup};
+ghost use Rattle.dsm_core.specs.States.{setup_of};
+ghost use Rattle.dsm_top.specs.Run.{IsRunnable};
 ghost use Rattle.dsm_top.specs.Answer.{Answers};
 
 use crate::plans::Plan;
-use crate::ran::Ran;
 use crate::reporting::report;
-use crate::running::run;
+use dsm_core::laws::one_node_law;
+use dsm_core::ran::Ran;
 use dsm_entry::entry::NoMemory;
 use dsm_isa::program::Program;
 use dsm_list::listing::{list, shape_text};
+use dsm_machine::limits::Limits;
+use dsm_sched::kind::Kind;
+use dsm_sched::simulation::sim;
+use dsm_words::topology::Topology;
 use std::alloc::Global;
 
 /// The whole answer of a plan.
@@ -20,6 +27,7 @@ pub struct Answer {
 
 /// What the plan has to say of the program.
 pub fn answer_to(alloc: Global, plan: Plan, program: &Program) -> Result<Answer, NoMemory>
+    requires { IsRunnable plan program.now }
     ensures { IfOk result (λ a. Answers plan program.now a.ran a.text.items) }
 {
     match plan {
@@ -31,16 +39,31 @@ pub fn answer_to(alloc: Global, plan: Plan, program: &Program) -> Result<Answer,
             text: list(alloc, program)?,
             ran: None,
         }),
-        Plan::Sim => run_and_report(alloc, program),
+        Plan::Sim {
+            t,
+            limits,
+            kind,
+            steps,
+        } => run_and_report(alloc, program, t, limits, kind, steps),
     }
 }
 
 /// Runs the program, and reports it.
-fn run_and_report(alloc: Global, program: &Program) -> Result<Answer, NoMemory>
-    ensures { IfOk result (λ a. Answers Plan.Sim program.now a.ran a.text.items) }
+fn run_and_report(
+    alloc: Global,
+    program: &Program,
+    t: Topology,
+    limits: Limits,
+    kind: Kind,
+    steps: u64,
+) -> Result<Answer, NoMemory>
+    requires one_node { t.nodes ≡ 1 }
+    requires setup { IsSetup (setup_of program.now t limits) }
+    ensures { IfOk result (λ a. Answers (Plan.Sim t limits kind steps) program.now a.ran a.text.items) }
 {
-    let ran = run(alloc, program)?;
-    let text = report(alloc, program.shape(), &ran)?;
+    one_node_law();
+    let ran = sim(alloc, program, t, limits, kind, steps)?.ran;
+    let text = report(alloc, t, program.shape(), &ran)?;
     Ok(Answer {
         text,
         ran: Some(ran),

@@ -4,11 +4,9 @@
 pub mod answering;
 pub mod planning;
 pub mod plans;
-pub mod ran;
 pub mod reading;
 pub mod refusal;
 pub mod reporting;
 #[cfg(test)]
 mod round_trip;
-pub mod running;
 pub mod top;

@@ -1,45 +1,204 @@
-ghost use Rattle.std.specs.Prelude.{◌≡◌, ◌+◌, ◌<◌, ◌≤◌, ◌↔◌, length, Some, IsTrue, IfOk, IfErr, slice_get};
-ghost use Rattle.dsm_top.specs.Plans.{texts, PlanOf, FirstFault};
+ghost use Rattle.std.specs.Prelude.{◌≡◌, ◌≢◌, ◌↔◌, ℕ, ◌<◌, ◌≤◌, ◌^◌, IsTrue, All, Any, ◌++◌, ◌∷◌, [], List, IfSome, IfNone, IfOk, IfErr, MatchOption, length, codes, decimal};
+ghost use Rattle.dsm_words.specs.Counts.{IsFrom1To};
+ghost use Rattle.dsm_words.specs.declared.topology.Topology.{Topology as topology_of};
+ghost use Rattle.dsm_top.specs.declared.plans.Setting.{Setting as setting_of};
+ghost use Rattle.dsm_top.specs.Plans.{texts, topology_word, word_of, name_of, IsInRange, AreSome, IsGivenBy, Give, FirstUnset, PlanOf, FirstFault};
 
-use crate::plans::Plan;
+use crate::plans::{
+    DEFAULT_LOOKS, DEFAULT_STEPS, DEFAULT_TURNS, MOST_LOOKS, MOST_STEPS, MOST_TURNS, Plan, Setting,
+};
+use dsm_lex::laws::lex_law;
+use dsm_lex::spelling::number;
+use dsm_machine::limits::Limits;
+use dsm_sched::kind::Kind;
+use dsm_words::topology::Topology;
+
+#[cfg(test)]
+mod tests;
+
+/// What the settings among some words give.
+#[derive(Clone, Copy)]
+struct Given {
+    kind: Option<Kind>,
+    turns: Option<u64>,
+    looks: Option<u64>,
+    steps: Option<u64>,
+}
 
 /// The plan that the words ask for, or the number, from 1, of the first faulty word. It takes no memory.
 pub fn plan(words: &[String]) -> Result<Plan, u64>
     ensures plan { IfOk result (λ p. PlanOf (texts words.now) p) }
     ensures fault { IfErr result (λ k. FirstFault (texts words.now) k) }
 {
-    if has_word(words, 0, "check") {
-        return ended(words, 1, Plan::Check);
-    }
-    if has_word(words, 0, "list") {
-        return ended(words, 1, Plan::List);
-    }
-    if !has_word(words, 0, "sim") {
+    let Some((name, rest)) = words.split_first() else {
         return Err(1);
+    };
+    match name.as_str() {
+        "check" => alone(rest, Plan::Check),
+        "list" => alone(rest, Plan::List),
+        "sim" => simulation(rest),
+        _ => Err(1),
     }
-    if !has_word(words, 1, "1x1") {
+}
+
+/// The plan of a command that is one word, where no word stands behind it.
+fn alone(rest: &[String], plan: Plan) -> Result<Plan, u64>
+    ensures plan { IfOk result (λ p. (p ≡ plan) × (texts rest.now ≡ [])) }
+    ensures fault { IfErr result (λ k. (k ≡ 2) × (1 ≤ length rest.now)) }
+{
+    if rest.is_empty() { Ok(plan) } else { Err(2) }
+}
+
+/// The plan of `sim` and the words behind it.
+fn simulation(rest: &[String]) -> Result<Plan, u64>
+    ensures plan { IfOk result (λ p. PlanOf (codes "sim" ∷ texts rest.now) p) }
+    ensures fault { IfErr result (λ k. FirstFault (codes "sim" ∷ texts rest.now) k) }
+{
+    let Some((word, rest)) = rest.split_first() else {
         return Err(2);
+    };
+    let Some(t) = topology(word.as_str()) else {
+        return Err(2);
+    };
+    match settings(rest) {
+        Ok(given) => Ok(given.simulation(t)),
+        Err(k) => Err(k + 2),
     }
-    ended(words, 2, Plan::Sim)
 }
 
-/// The plan where the words end behind so many, and the number of the word behind them where they don't.
-fn ended(words: &[String], count: usize, plan: Plan) -> Result<Plan, u64>
-    ensures ended { IfOk result (λ p. (p ≡ plan) × (length words.now ≤ count)) }
-    ensures further { IfErr result (λ k. (k ≡ count + 1) × (count < length words.now)) }
+/// The cluster of one node that a word asks for, as `1x4` does.
+fn topology(word: &str) -> Option<Topology>
+    ensures some { IfSome result (λ t. (t.nodes ≡ 1) × (word.now ≡ topology_word t)) }
+    ensures none { IfNone result ((t : topology_of) → t.nodes ≡ 1 → word.now ≡ topology_word t → ⊥) }
 {
-    if words.len() > count {
-        return Err(count as u64 + 1);
+    let (nodes, procs) = word.split_once('x')?;
+    let nodes = small_number(nodes.as_bytes())?;
+    let procs = small_number(procs.as_bytes())?;
+    if nodes == 1 {
+        Topology::new(nodes, procs).ok()
+    } else {
+        None
     }
-    Ok(plan)
 }
 
-/// Whether this word stands at this place, from 0.
-fn has_word(words: &[String], at: usize, word: &str) -> bool
-    ensures { IsTrue result ↔ (slice_get (texts words.now) at ≡ Some word.now) }
+/// The number that a word spells.
+fn small_number(word: &[u8]) -> Option<u32>
+    ensures some { IfSome result (λ n. word.now ≡ decimal n) }
+    ensures none { IfNone result ((n : ℕ) → n < 2 ^ 32 → word.now ≡ decimal n → ⊥) }
 {
-    match words.get(at) {
-        Some(found) => found.as_str() == word,
-        None => false,
+    lex_law();
+    u32::try_from(number(word)?).ok()
+}
+
+/// What the words set, or the number, from 1, of the first that sets nothing or what one before it does.
+fn settings(words: &[String]) -> Result<Given, u64>
+    ensures given { IfOk result (λ given. Give (texts words.now) given) }
+    ensures fault { IfErr result (λ k. FirstUnset (texts words.now) k) }
+{
+    let mut given = Given {
+        kind: None,
+        turns: None,
+        looks: None,
+        steps: None,
+    };
+    for (i, word) in words.iter().enumerate() {
+        let Some(more) = given.with_word(word.as_str().as_bytes()) else {
+            return Err(i as u64 + 1);
+        };
+        given = more;
     }
+    Ok(given)
+}
+
+impl Given {
+    /// With what one more word sets, if that is not given yet.
+    fn with_word(self, word: &[u8]) -> Option<Given>
+        ensures { (words : List (List ℕ)) → Give words self → MatchOption result (AreSome (words ++ word.now ∷ []) → ⊥) (λ more. Give (words ++ word.now ∷ []) more) }
+    {
+        let setting = setting(word)?;
+        if self.has(setting) {
+            None
+        } else {
+            Some(self.with(setting))
+        }
+    }
+
+    /// Whether it is given what this setting sets.
+    fn has(self, setting: Setting) -> bool
+        ensures { (settings : List setting_of) → IsGivenBy self settings → IsTrue result ↔ Any (λ other. name_of other ≡ name_of setting) settings }
+    {
+        match setting {
+            Setting::Kind(_) => self.kind.is_some(),
+            Setting::Turns(_) => self.turns.is_some(),
+            Setting::Looks(_) => self.looks.is_some(),
+            Setting::Steps(_) => self.steps.is_some(),
+        }
+    }
+
+    /// With one more setting.
+    fn with(self, setting: Setting) -> Given
+        ensures { (settings : List setting_of) → IsGivenBy self settings → All (λ other. name_of other ≢ name_of setting) settings → IsGivenBy result (settings ++ setting ∷ []) }
+    {
+        match setting {
+            Setting::Kind(kind) => Given {
+                kind: Some(kind),
+                ..self
+            },
+            Setting::Turns(n) => Given {
+                turns: Some(n),
+                ..self
+            },
+            Setting::Looks(n) => Given {
+                looks: Some(n),
+                ..self
+            },
+            Setting::Steps(n) => Given {
+                steps: Some(n),
+                ..self
+            },
+        }
+    }
+
+    /// The plan to simulate this cluster with what is given, and with the default of all else.
+    fn simulation(self, t: Topology) -> Plan
+        ensures { (words : List (List ℕ)) → t.nodes ≡ 1 → Give words self → PlanOf (codes "sim" ∷ topology_word t ∷ words) result }
+    {
+        Plan::Sim {
+            t,
+            limits: Limits {
+                turns: self.turns.unwrap_or(DEFAULT_TURNS),
+                looks: Some(self.looks.unwrap_or(DEFAULT_LOOKS)),
+            },
+            kind: self.kind.unwrap_or(Kind::Round),
+            steps: self.steps.unwrap_or(DEFAULT_STEPS),
+        }
+    }
+}
+
+/// The setting that a word is, if it is one and its number is in its range.
+fn setting(word: &[u8]) -> Option<Setting>
+    ensures some { IfSome result (λ setting. IsInRange setting × (word.now ≡ word_of setting)) }
+    ensures none { IfNone result ((setting : setting_of) → IsInRange setting → word.now ≡ word_of setting → ⊥) }
+{
+    if word == b"kind=round".as_slice() {
+        return Some(Setting::Kind(Kind::Round));
+    }
+    if let Some(n) = number_behind(word, b"turns=", MOST_TURNS) {
+        return Some(Setting::Turns(n));
+    }
+    if let Some(n) = number_behind(word, b"looks=", MOST_LOOKS) {
+        return Some(Setting::Looks(n));
+    }
+    let n = number_behind(word, b"steps=", MOST_STEPS)?;
+    Some(Setting::Steps(n))
+}
+
+/// The number from 1 to `most` that stands in a word behind `name`.
+fn number_behind(word: &[u8], name: &[u8], most: u64) -> Option<u64>
+    ensures some { IfSome result (λ n. IsFrom1To most n × (word.now ≡ name.now ++ decimal n)) }
+    ensures none { IfNone result ((n : ℕ) → IsFrom1To most n → word.now ≡ name.now ++ decimal n → ⊥) }
+{
+    lex_law();
+    let n = number(word.strip_prefix(name)?)?;
+    if 1 <= n && n <= most { Some(n) } else { None }
 }

@@ -1,3 +1,25 @@
+use dsm_machine::limits::Limits;
+use dsm_sched::kind::Kind;
+use dsm_words::topology::Topology;
+
+/// The most instructions of a processor that `turns` may allow.
+pub const MOST_TURNS: u64 = 1_000_000;
+
+/// The instructions of a processor where `turns` is not given.
+pub const DEFAULT_TURNS: u64 = 200_000;
+
+/// The most unready looks of a processor that `looks` may allow.
+pub const MOST_LOOKS: u64 = 1_000_000_000;
+
+/// The unready looks of a processor where `looks` is not given.
+pub const DEFAULT_LOOKS: u64 = 50_000_000;
+
+/// The most events of all processors that `steps` may allow.
+pub const MOST_STEPS: u64 = 1_000_000_000_000;
+
+/// The events of all processors where `steps` is not given.
+pub const DEFAULT_STEPS: u64 = 100_000_000;
+
 /// What the words of a command line ask for.
 #[derive(Clone, Copy, Debug, PartialEq, Eq)]
 pub enum Plan {
@@ -5,6 +27,25 @@ pub enum Plan {
     Check,
     /// `list`: writes the canonical text of the program.
     List,
-    /// `sim 1x1`: runs the program on one processor.
-    Sim,
+    /// `sim NxC` and settings: runs the program on this cluster.
+    Sim {
+        t: Topology,
+        limits: Limits,
+        kind: Kind,
+        /// The most events of all processors.
+        steps: u64,
+    },
+}
+
+/// What a word behind the topology of `sim` sets.
+#[derive(Clone, Copy, Debug, PartialEq, Eq)]
+pub enum Setting {
+    /// `kind=round`
+    Kind(Kind),
+    /// `turns=t`
+    Turns(u64),
+    /// `looks=l`
+    Looks(u64),
+    /// `steps=k`
+    Steps(u64),
 }

@@ -2,13 +2,16 @@ ghost use Rattle.std.specs.Prelude.{◌≡◌, ◌*◌, ◌++◌, [], ◌∷◌,
 ghost use Rattle.dsm_isa.specs.ProgramText.{sizes_of};
 ghost use Rattle.dsm_list.specs.Lines.{line};
 ghost use Rattle.dsm_top.specs.Report.{trap_words, end_words, end_lines, out_line, out_lines, page_lines, report as report_of};
+ghost use Rattle.dsm_top.specs.Plans.{topology_word};
 
-use crate::ran::Ran;
+use dsm_core::ran::Ran;
 use dsm_entry::entry::{Entry, NoMemory};
 use dsm_entry::trace::Trace;
 use dsm_isa::shape::Shape;
 use dsm_list::lines::Lines;
 use dsm_local::end::{End, Trap};
+use dsm_words::topology::Topology;
+use itoa::Buffer;
 use std::alloc::Global;
 
 #[cfg(test)]
@@ -17,12 +20,12 @@ mod tests;
 /// The report of a run: the cluster, how each processor ended, what each printed, and the words of
 /// the pages.
 #[tactic(auto, unfolding(crate::specs::Report::report))]
-pub fn report(alloc: Global, shape: Shape, ran: &Ran) -> Result<Vec<u8>, NoMemory>
+pub fn report(alloc: Global, t: Topology, shape: Shape, ran: &Ran) -> Result<Vec<u8>, NoMemory>
     requires { length ran.now.pages ≡ shape.pages * shape.words }
-    ensures { IfOk result (λ text. text.items ≡ report_of (sizes_of shape) ran.now) }
+    ensures { IfOk result (λ text. text.items ≡ report_of t (sizes_of shape) ran.now) }
 {
     let mut lines = Lines::new(alloc);
-    write_title(&mut lines)?;
+    write_title(&mut lines, t)?;
     write_ends(&mut lines, &ran.ends)?;
     write_outs(&mut lines, &ran.traces)?;
     write_pages(&mut lines, shape, &ran.pages)?;
@@ -30,11 +33,13 @@ pub fn report(alloc: Global, shape: Shape, ran: &Ran) -> Result<Vec<u8>, NoMemor
 }
 
 /// Names the cluster.
-fn write_title(lines: &mut Lines) -> Result<(), NoMemory>
-    ensures { OnOk result (lines.new ≡ lines.old ++ line (codes "cashmere" ∷ codes "1x1" ∷ [])) }
+fn write_title(lines: &mut Lines, t: Topology) -> Result<(), NoMemory>
+    ensures { OnOk result (lines.new ≡ lines.old ++ line (codes "cashmere" ∷ topology_word t ∷ [])) }
 {
     lines.first("cashmere")?;
-    lines.word("1x1")?;
+    lines.number(u64::from(t.nodes))?;
+    lines.first("x")?;
+    lines.first(Buffer::new().format(t.procs))?;
     lines.end()
 }
 
@@ -92,8 +97,11 @@ fn write_trap(lines: &mut Lines, kind: Trap) -> Result<(), NoMemory>
             lines.word("address")?;
             lines.number(w)
         }
+        Trap::NotHeld { l } => {
+            lines.word("notheld")?;
+            lines.number(u64::from(l))
+        }
         Trap::DivideByZero => lines.word("zero"),
-        Trap::Later => lines.word("later"),
     }
 }
 

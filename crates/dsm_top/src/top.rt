@@ -1,25 +1,33 @@
 ghost use Rattle.std.specs.Prelude.{◌≡◌, ℕ, ◌≤◌, ◌⊎◌, ◌↔◌, List, IsSome, IsSomeAnd, IfSome, None};
 ghost use Rattle.std.specs.Io.KnownBytes.{Appends};
-ghost use Rattle.dsm_isa.specs.ProgramText.{ProgramText};
 ghost use Rattle.dsm_io.specs.Faults.{Rose};
 ghost use Rattle.dsm_io.specs.Whole.{AppendsPrefix};
+ghost use Rattle.dsm_core.specs.Outcomes.{AllHalted, SomeWants};
 ghost use Rattle.dsm_top.specs.declared.plans.Plan.{Plan as plan_of_words};
 ghost use Rattle.dsm_top.specs.Plans.{texts, PlanOf, FirstFault};
 ghost use Rattle.dsm_top.specs.Report.{refused_word, refused_line, kind_name as name_of_kind};
-ghost use Rattle.dsm_top.specs.Run.{Runs, IsFlatRun, AllHalted};
-ghost use Rattle.dsm_top.specs.Answer.{ReadsProgram, RefusesAndWrites, WritesLine, Accepts, IsStopped};
+ghost use Rattle.dsm_top.specs.Answer.{RefusesAndWrites, WritesLine, Accepts, AskToRun, HasRun};
 
 use crate::answering::{Answer, answer_to};
 use crate::planning::plan;
-use crate::ran::Done;
 use crate::reading::{Unread, read_program};
 use crate::refusal::{Line, kind_name, refuse_line, refuse_word};
 use dsm_asm::fault::AsmFault;
+use dsm_core::ran::Ran;
 use dsm_io::{Sink, Source, write_all};
 use std::alloc::Global;
 
 #[cfg(test)]
 mod tests;
+
+/// How the top call ended.
+#[derive(Drop)]
+pub struct Done {
+    /// The exit status, 0 to 7.
+    pub status: u8,
+    /// What the run left, where there was one whose report was made.
+    pub ran: Option<Ran>,
+}
 
 /// Does what the words of the command line ask for: reads the program from the source, and writes the
 /// answer to the sink. It waits for nobody.
@@ -29,7 +37,7 @@ pub fn still<S: Source, K: Sink>(
     source: &mut S,
     sink: &mut K,
 ) -> Done
-    ensures status { result.status ≤ 6 }
+    ensures status { result.status ≤ 7 }
 
     // Status 2 exactly where the words ask for no plan. Nothing is read then, and the line that names
     // the first faulty word is written.
@@ -48,7 +56,7 @@ pub fn still<S: Source, K: Sink>(
 
     // In all other cases the text was read whole, has no fault, and the answer of the plan to its program
     // was made. It was written, but for status 5, which comes only where a write failed: then a prefix was.
-    ensures whole { (result.status ≡ 0) ⊎ (result.status ≡ 1) → (bytes : List ℕ)
+    ensures whole { (result.status ≡ 0) ⊎ (result.status ≡ 1) ⊎ (result.status ≡ 7) → (bytes : List ℕ)
         × Accepts (texts words.now) (S.left source.old) (S.left source.new) result.ran bytes
         × Appends (K.written sink.old) (K.written sink.new) bytes }
     ensures prefix { result.status ≡ 5 → (bytes : List ℕ)
@@ -56,11 +64,13 @@ pub fn still<S: Source, K: Sink>(
         × AppendsPrefix (K.written sink.old) (K.written sink.new) bytes }
     ensures write_fault { result.status ≡ 5 → Rose (K.faults sink.old) (K.faults sink.new) }
 
-    // Where the plan is to run the program, it was run to its end, and the run is that of a flat memory.
-    ensures ran { IsSome result.ran ↔ (PlanOf (texts words.now) plan_of_words.Sim × ((result.status ≡ 0) ⊎ (result.status ≡ 1) ⊎ (result.status ≡ 5))) }
-    ensures run { IfSome result.ran (λ a. (p : ProgramText) × ReadsProgram (S.left source.old) (S.left source.new) p × Runs p a × IsFlatRun p a) }
+    // Where the words ask to run the program, it was run by the schedule, and the run is as promised.
+    ensures ran { IsSome result.ran ↔ (AskToRun (texts words.now) × ((result.status ≡ 0) ⊎ (result.status ≡ 1) ⊎ (result.status ≡ 5) ⊎ (result.status ≡ 7))) }
+    ensures run { IfSome result.ran (HasRun (texts words.now) (S.left source.old) (S.left source.new)) }
+    // Status 0 where all processors halted, 7 where one ended for want of memory, and else 1.
     ensures halted { result.status ≡ 0 → IfSome result.ran (λ a. AllHalted a.ends) }
-    ensures stopped { result.status ≡ 1 → IsSomeAnd result.ran (λ a. IsStopped a.ends) }
+    ensures wanted { result.status ≡ 7 → IsSomeAnd result.ran (λ a. SomeWants a.ends) }
+    ensures stopped { result.status ≡ 1 → IsSomeAnd result.ran (λ a. (AllHalted a.ends → ⊥) × (SomeWants a.ends → ⊥)) }
 {
     let plan = match plan(words) {
         Ok(plan) => plan,
@@ -81,11 +91,12 @@ pub fn still<S: Source, K: Sink>(
 
 /// Writes the answer.
 fn finish<K: Sink>(sink: &mut K, answer: Answer) -> Done
-    ensures status { (result.status ≡ 0) ⊎ (result.status ≡ 1) ⊎ (result.status ≡ 5) }
+    ensures status { (result.status ≡ 0) ⊎ (result.status ≡ 1) ⊎ (result.status ≡ 5) ⊎ (result.status ≡ 7) }
     ensures ran { result.ran ≡ answer.ran }
     ensures halted { result.status ≡ 0 → IfSome answer.ran (λ a. AllHalted a.ends) }
-    ensures stopped { result.status ≡ 1 → IsSomeAnd answer.ran (λ a. AllHalted a.ends → ⊥) }
-    ensures whole { (result.status ≡ 0) ⊎ (result.status ≡ 1) → Appends (K.written sink.old) (K.written sink.new) answer.text.items }
+    ensures wanted { result.status ≡ 7 → IsSomeAnd answer.ran (λ a. SomeWants a.ends) }
+    ensures stopped { result.status ≡ 1 → IsSomeAnd answer.ran (λ a. (AllHalted a.ends → ⊥) × (SomeWants a.ends → ⊥)) }
+    ensures whole { (result.status ≡ 0) ⊎ (result.status ≡ 1) ⊎ (result.status ≡ 7) → Appends (K.written sink.old) (K.written sink.new) answer.text.items }
     ensures prefix { result.status ≡ 5 → AppendsPrefix (K.written sink.old) (K.written sink.new) answer.text.items }
     ensures write_fault { result.status ≡ 5 → Rose (K.faults sink.old) (K.faults sink.new) }
 {
@@ -99,13 +110,16 @@ fn finish<K: Sink>(sink: &mut K, answer: Answer) -> Done
     }
 }
 
-/// The status where all was written: 1 where a run was stopped, and 0 elsewhere.
+/// The status where all was written: 7 where a processor wanted memory, else 1 where one has not halted, and 0
+/// elsewhere.
 fn ending(answer: &Answer) -> u8
-    ensures status { (result ≡ 0) ⊎ (result ≡ 1) }
+    ensures status { (result ≡ 0) ⊎ (result ≡ 1) ⊎ (result ≡ 7) }
     ensures halted { result ≡ 0 → IfSome answer.now.ran (λ a. AllHalted a.ends) }
-    ensures stopped { result ≡ 1 → IsSomeAnd answer.now.ran (λ a. AllHalted a.ends → ⊥) }
+    ensures wanted { result ≡ 7 → IsSomeAnd answer.now.ran (λ a. SomeWants a.ends) }
+    ensures stopped { result ≡ 1 → IsSomeAnd answer.now.ran (λ a. (AllHalted a.ends → ⊥) × (SomeWants a.ends → ⊥)) }
 {
     match &answer.ran {
+        Some(ran) if ran.wants_memory() => 7,
         Some(ran) if !ran.is_halted() => 1,
         _ => 0,
     }

@@ -2,6 +2,7 @@ ghost use Rattle.std.specs.Prelude.{◌≡◌, length};
 
 use super::*;
 use crate::refusal::{refuse_line, refuse_word};
+use dsm_machine::counts::Counts;
 use std::test::Fail;
 
 // What one processor did.
@@ -29,8 +30,10 @@ fn reported(
         traces: vec![in alloc; trace_of(alloc, entries)?]?,
         ends: vec![in alloc; Some(end)]?,
         pages: Vec::from_slice(alloc, words)?,
+        counts: Counts::none(),
     };
-    Ok(report(alloc, shape, &ran)?)
+    let t = Topology::new(1, 1)?;
+    Ok(report(alloc, t, shape, &ran)?)
 }
 
 // Only what was printed has lines, in order, and each word of the page is there.
@@ -54,7 +57,10 @@ fn reports_each_end(rt: HostRuntime) -> Result<(), Fail> {
     let table = [
         (trapped(3, Trap::Address { w: 4 }), "trapped 3 address 4"),
         (trapped(0, Trap::DivideByZero), "trapped 0 zero"),
-        (trapped(4095, Trap::Later), "trapped 4095 later"),
+        (
+            trapped(4095, Trap::NotHeld { l: 63 }),
+            "trapped 4095 notheld 63",
+        ),
         (End::Spent, "spent"),
         (End::Looked, "looked"),
         (End::Stopped { by: 31 }, "stopped by 31"),

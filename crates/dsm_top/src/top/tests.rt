@@ -3,7 +3,9 @@ ghost use Rattle.std.specs.Prelude.{◌<◌};
 
 use super::*;
 use crate::reading::MOST_TEXT;
-use dsm_entry::entry::NoMemory;
+use dsm_entry::entry::{NoMemory, Place};
+use dsm_flat::judge::judge;
+use dsm_flat::verdict::Verdict;
 use dsm_io::{MemSink, MemSource};
 use std::test::Fail;
 
@@ -73,17 +75,186 @@ const COMMANDS: &[Row] = &[
         0,
         "cashmere 1x1\nend 0 halted\nout 0 9\npage 0 5 0\npage 1 9 9\n",
     ),
+];
+
+/// Words that ask for no plan, each with the number of the first faulty one.
+const WORDS: &[Row] = &[
+    (&["sim", "9x1"], FIRST, 2, "refused word 2\n"),
+    (&["sim", "8x8"], FIRST, 2, "refused word 2\n"),
+    (&["sim", "2x1"], FIRST, 2, "refused word 2\n"),
+    (&["sim", "1x9"], FIRST, 2, "refused word 2\n"),
+    (&["sim", "1x0"], FIRST, 2, "refused word 2\n"),
+    (&["sim", "turns=5", "1x1"], FIRST, 2, "refused word 2\n"),
     (
-        SIM,
-        b".words 1\nl: jmp l",
+        &["sim", "1x1", "turns=5", "turns=5"],
+        FIRST,
+        2,
+        "refused word 4\n",
+    ),
+    (&["sim", "1x1", "turns=0"], FIRST, 2, "refused word 3\n"),
+    (
+        &["sim", "1x1", "turns=1000001"],
+        FIRST,
+        2,
+        "refused word 3\n",
+    ),
+    (
+        &["sim", "1x1", "looks=1000000001"],
+        FIRST,
+        2,
+        "refused word 3\n",
+    ),
+    (
+        &["sim", "1x1", "steps=1000000000001"],
+        FIRST,
+        2,
+        "refused word 3\n",
+    ),
+    (
+        &["sim", "1x1", "looks=1", "kind=mixed"],
+        FIRST,
+        2,
+        "refused word 4\n",
+    ),
+    (
+        &["sim", "1x1", "kind=round", "trace"],
+        FIRST,
+        2,
+        "refused word 4\n",
+    ),
+    (&["run", "1x1"], FIRST, 2, "refused word 1\n"),
+];
+
+/// Each processor adds 1 to word 0 a hundred times, under a lock; processor 0 prints the sum.
+const COUNTER: &[u8] =
+    b".words 4\n.locks 1\n.barriers 1\nli r1 100\nli r2 0\nloop: lock 0\nld r3 r2 0\naddi r3 r3 1\nst r3 r2 0\nunlock 0\nsubi r1 r1 1\nbne r1 r2 loop\nbar 0\nme r4\nbne r4 r2 end\nld r3 r2 0\nout r3\nend: halt\n";
+
+/// Processor 0 waits for a flag that nobody sets, and processor 1 for processor 0.
+const NEVER: &[u8] =
+    b".words 2\n.barriers 1\n.flags 1\nme r1\nli r2 0\nbne r1 r2 b\nwait 0 1\nb: bar 0\nhalt\n";
+
+/// Processor 1 stores 5 and sets the flag that processor 0 waits for, as often as its register says.
+const PRODUCER: &[u8] =
+    b".words 2\n.flags 1\nme r1\nli r2 0\nli r3 1\nbne r1 r2 one\nwaitr 0 r3\nld r4 r2 1\nout r4\nhalt\none: li r4 5\nst r4 r2 1\nset 0\n";
+
+/// Each processor stores a number to a word of its own, and behind a barrier prints its right neighbour's.
+const NEIGHBOURS: &[u8] =
+    b".words 8\n.barriers 1\nme r1\naddi r2 r1 100\nst r2 r1 0\nbar 0\nprocs r3\naddi r4 r1 1\nrem r4 r4 r3\nld r5 r4 0\nout r5\nhalt\n";
+
+/// The same for processors 0 to 3; all others store to word 4, and print what they then find there.
+const RACERS: &[u8] =
+    b".words 8\n.barriers 1\nme r1\nli r6 4\naddi r2 r1 100\nblt r1 r6 own\nst r2 r6 0\njmp meet\nown: st r2 r1 0\nmeet: bar 0\nbge r1 r6 race\naddi r4 r1 1\nrem r4 r4 r6\nld r5 r4 0\nout r5\nhalt\nrace: ld r5 r6 0\nout r5\nhalt\n";
+
+const LOOP: &[u8] = b".words 1\nl: jmp l\n";
+
+const NINE: &[u8] =
+    b".words 1\nli r1 0\nli r1 0\nli r1 0\nli r1 0\nli r1 0\nli r1 0\nli r1 0\nli r1 0\nli r1 0\nhalt\n";
+
+/// Runs on one node.
+const RUNS: &[Row] = &[
+    (
+        &["sim", "1x1", "steps=6"],
+        FIRST,
+        1,
+        "cashmere 1x1\nend 0 cut\nout 0 7\npage 0 0 0 7 0\n",
+    ),
+    (&["sim", "1x1", "steps=7"], FIRST, 0, FIRST_REPORT),
+    (
+        &["sim", "1x1", "steps=3"],
+        FIRST,
+        1,
+        "cashmere 1x1\nend 0 cut\npage 0 0 0 7 0\n",
+    ),
+    (
+        &["sim", "1x4"],
+        COUNTER,
+        0,
+        "cashmere 1x4\nend 0 halted\nend 1 halted\nend 2 halted\nend 3 halted\nout 0 400\npage 0 400 0 0 0\n",
+    ),
+    (
+        &["sim", "1x8"],
+        COUNTER,
+        0,
+        "cashmere 1x8\nend 0 halted\nend 1 halted\nend 2 halted\nend 3 halted\nend 4 halted\nend 5 halted\nend 6 halted\nend 7 halted\nout 0 800\npage 0 800 0 0 0\n",
+    ),
+    (
+        &["sim", "1x4"],
+        NEIGHBOURS,
+        0,
+        "cashmere 1x4\nend 0 halted\nend 1 halted\nend 2 halted\nend 3 halted\nout 0 101\nout 1 102\nout 2 103\nout 3 100\npage 0 100 101 102 103 0 0 0 0\n",
+    ),
+    (
+        &["sim", "1x8"],
+        NEIGHBOURS,
+        0,
+        "cashmere 1x8\nend 0 halted\nend 1 halted\nend 2 halted\nend 3 halted\nend 4 halted\nend 5 halted\nend 6 halted\nend 7 halted\nout 0 101\nout 1 102\nout 2 103\nout 3 104\nout 4 105\nout 5 106\nout 6 107\nout 7 100\npage 0 100 101 102 103 104 105 106 107\n",
+    ),
+    (
+        &["sim", "1x4"],
+        RACERS,
+        0,
+        "cashmere 1x4\nend 0 halted\nend 1 halted\nend 2 halted\nend 3 halted\nout 0 101\nout 1 102\nout 2 103\nout 3 100\npage 0 100 101 102 103 0 0 0 0\n",
+    ),
+    // Word 4 is not ordered. By the schedule processor 7 stores to it last, and all load behind the barrier.
+    (
+        &["sim", "1x8"],
+        RACERS,
+        0,
+        "cashmere 1x8\nend 0 halted\nend 1 halted\nend 2 halted\nend 3 halted\nend 4 halted\nend 5 halted\nend 6 halted\nend 7 halted\nout 0 101\nout 1 102\nout 2 103\nout 3 100\nout 4 107\nout 5 107\nout 6 107\nout 7 107\npage 0 100 101 102 103 107 0 0 0\n",
+    ),
+    (
+        &["sim", "1x2", "looks=5"],
+        NEVER,
+        1,
+        "cashmere 1x2\nend 0 looked\nend 1 looked\npage 0 0 0\n",
+    ),
+    (
+        &["sim", "1x2", "kind=round"],
+        PRODUCER,
+        0,
+        "cashmere 1x2\nend 0 halted\nend 1 halted\nout 0 5\npage 0 0 5\n",
+    ),
+    (
+        &["sim", "1x1", "turns=10"],
+        LOOP,
+        1,
+        "cashmere 1x1\nend 0 spent\npage 0 0\n",
+    ),
+    (
+        &["sim", "1x1", "steps=10", "turns=10"],
+        LOOP,
+        1,
+        "cashmere 1x1\nend 0 cut\npage 0 0\n",
+    ),
+    (
+        &["sim", "1x1", "steps=11", "turns=10"],
+        LOOP,
+        1,
+        "cashmere 1x1\nend 0 spent\npage 0 0\n",
+    ),
+    (
+        &["sim", "1x1", "turns=10"],
+        NINE,
+        0,
+        "cashmere 1x1\nend 0 halted\npage 0 0\n",
+    ),
+    (
+        &["sim", "1x1", "turns=9"],
+        NINE,
         1,
         "cashmere 1x1\nend 0 spent\npage 0 0\n",
     ),
     (
         SIM,
-        b".words 1\n.locks 1\nlock 0",
+        b".words 1\n.locks 1\nunlock 0\nhalt\n",
         1,
-        "cashmere 1x1\nend 0 trapped 0 later\npage 0 0\n",
+        "cashmere 1x1\nend 0 trapped 0 notheld 0\npage 0 0\n",
+    ),
+    (
+        &["sim", "1x2"],
+        b".words 1\n.flags 1\nme r1\nli r2 0\nbne r1 r2 t\nwait 0 1\nt: div r1 r2 r2\n",
+        1,
+        "cashmere 1x2\nend 0 stopped by 1\nend 1 trapped 4 zero\npage 0 0\n",
     ),
 ];
 
@@ -221,8 +392,32 @@ const ORDER: &[Row] = &[
     (CHECK, b"x:\nfoo", 3, "refused line 2 UnknownWord\n"),
 ];
 
-/// The status and the bytes written, for a source that fails at these reads and gives so many bytes a
+/// How the top call ended and the bytes written, for a source that fails at these reads and gives so many bytes a
 /// read, and a sink that fails at these calls and takes so many bytes a write.
+fn asked(
+    alloc: Global,
+    words: &[&str],
+    text: &[u8],
+    source: (usize, &[u64]),
+    sink: (usize, &[u64]),
+) -> Result<(Done, Vec<u8>), Fail>
+    requires source { 0 < source.0 }
+    requires sink { 0 < sink.0 }
+{
+    let mut line = Vec::new(alloc);
+    for word in words {
+        line.push(String::from_str(alloc, word)?)?;
+    }
+    let mut from = MemSource::new(text.to_vec(alloc)?, source.0, source.1.to_vec(alloc)?);
+    let mut to = match MemSink::new(alloc, 200_000, sink.0, sink.1.to_vec(alloc)?) {
+        Ok(to) => to,
+        Err(NoMemory) => return Err(Fail::from("no memory for the sink")),
+    };
+    let done = still(alloc, line.as_slice(), &mut from, &mut to);
+    Ok((done, to.bytes().to_vec(alloc)?))
+}
+
+/// The status and the bytes written.
 fn answer(
     alloc: Global,
     words: &[&str],
@@ -233,17 +428,8 @@ fn answer(
     requires source { 0 < source.0 }
     requires sink { 0 < sink.0 }
 {
-    let mut line = Vec::new(alloc);
-    for word in words {
-        line.push(String::from_str(alloc, word)?)?;
-    }
-    let mut from = MemSource::new(text.to_vec(alloc)?, source.0, source.1.to_vec(alloc)?);
-    let mut to = match MemSink::new(alloc, 1000, sink.0, sink.1.to_vec(alloc)?) {
-        Ok(to) => to,
-        Err(NoMemory) => return Err(Fail::from("no memory for the sink")),
-    };
-    let done = still(alloc, line.as_slice(), &mut from, &mut to);
-    Ok((done.status, to.bytes().to_vec(alloc)?))
+    let (done, written) = asked(alloc, words, text, source, sink)?;
+    Ok((done.status, written))
 }
 
 /// Whether the answer to these words and this text is that, with that status.
@@ -260,7 +446,7 @@ fn answers(
 
 #[test]
 fn answers_as_told(rt: HostRuntime) -> Result<(), Fail> {
-    for table in [COMMANDS, TEXTS, ORDER] {
+    for table in [COMMANDS, WORDS, RUNS, TEXTS, ORDER] {
         for (i, (words, text, status, wanted)) in table.iter().enumerate() {
             assert!(rt;
                 answers(rt.alloc(), words, text, *status, wanted)?,
@@ -355,3 +541,62 @@ fn longest_text(rt: HostRuntime) -> Result<(), Fail> {
 /// A line of 100 bytes that is all comment.
 const COMMENT: &[u8] =
     b";xxxxxxxxxxxxxxxxxxxxxxxxxxxxxxxxxxxxxxxxxxxxxxxxxxxxxxxxxxxxxxxxxxxxxxxxxxxxxxxxxxxxxxxxxxxxxxxxxx\n";
+
+/// The report of a run of eight processors in the largest memory, in each of whose parts the last word has its
+/// number, from 1.
+fn largest_report(alloc: Global) -> Result<Vec<u8>, Fail> {
+    let mut text =
+        b"cashmere 1x8\nend 0 halted\nend 1 halted\nend 2 halted\nend 3 halted\nend 4 halted\nend 5 halted\nend 6 halted\nend 7 halted\n".to_vec(
+            alloc,
+        )?;
+    for g in 0..256 {
+        text.extend_from_slice(format!(in alloc; "page {g}")?.as_bytes())?;
+        for _ in 0..255 {
+            text.extend_from_slice(b" 0")?;
+        }
+        let last = if g % 32 == 31 { g / 32 + 1 } else { 0 };
+        text.extend_from_slice(format!(in alloc; " {last}\n")?.as_bytes())?;
+    }
+    Ok(text)
+}
+
+// The largest memory, the most objects and the most processors of one node: each part of the memory is its
+// processor's, who stores its number to the part's last word.
+#[test]
+fn largest_node(rt: HostRuntime) -> Result<(), Fail> {
+    let text: &[u8] =
+        b".pages 256\n.words 256\n.locks 64\n.barriers 16\n.flags 64\nme r1\nmuli r2 r1 8192\naddi r3 r1 1\nst r3 r2 8191\nbar 15\nlock 63\nunlock 63\nset 63\nwait 63 8\nhalt\n";
+    let (status, written) = answer(rt.alloc(), &["sim", "1x8"], text, (4096, &[]), (4096, &[]))?;
+    assert_eq!(rt; status, 0);
+    assert!(rt; written.as_slice() == largest_report(rt.alloc())?.as_slice());
+    Ok(())
+}
+
+/// What a run of this program leaves.
+fn left(alloc: Global, words: &[&str], text: &[u8]) -> Result<Ran, Fail> {
+    let (done, _) = asked(alloc, words, text, (4096, &[]), (4096, &[]))?;
+    Ok(done.ran.ok_or("no run")?)
+}
+
+// Where each has a word of its own, all words are ordered. Where two store to one word before they meet, their stores race.
+#[test]
+fn judges_runs(rt: HostRuntime) -> Result<(), Fail> {
+    let ran = left(rt.alloc(), &["sim", "1x4"], NEIGHBOURS)?;
+    assert!(rt; ran.traces.len() == 4);
+    assert_eq!(rt;
+        judge(rt.alloc(), ran.traces.as_slice(), 0)?,
+        Verdict::Ordered
+    );
+    let ran = left(rt.alloc(), &["sim", "1x6"], RACERS)?;
+    assert!(rt; ran.traces.len() == 6);
+    let first = Verdict::Raced {
+        x: Place { p: 4, i: 0 },
+        y: Place { p: 5, i: 0 },
+    };
+    assert_eq!(rt; judge(rt.alloc(), ran.traces.as_slice(), 4)?, first);
+    assert_eq!(rt;
+        judge(rt.alloc(), ran.traces.as_slice(), 0)?,
+        Verdict::Ordered
+    );
+    Ok(())
+}

@@ -14,6 +14,12 @@ overflow_add-taken c =
     let within : c.loop-step.taken + c.in-Some.step.takes ≤ length c.args.trace.now.list = IsAt-within _ _ _ _ _ _ there in
     omega (arith, within, c.len-count.ensures)
 
+pub loop-step-smaller : goal.loop-step-smaller
+loop-step-smaller c =
+    let there = IsAt-step _ _ _ _ _ _ _ c.in-Some.step c.loop-step.invariant c.get.ensures c.in-Some.ensures.step in
+    let within : c.loop-step.taken + c.in-Some.step.takes ≤ length c.args.trace.now.list = IsAt-within _ _ _ _ _ _ there in
+    omega (arith, within, c.in-Some.ensures.fewer)
+
 pub returns-then-taken-count : goal.returns-then-taken-count
 returns-then-taken-count c =
     let ended = IsAt-end _ _ _ _ _ _ _ c.loop-step.invariant c.get.ensures (sym c.in_default.is ∙ c.next_step.ensures.step) in (

@@ -1,46 +1,23 @@
-use Rattle.std.proofs.Common.{length, refl}
-use Rattle.std.proofs.lemmas.List.{length-map}
-use Rattle.dsm_top.specs.declared.plans.Plan.TheVariants.{Check, List as Listing, Sim}
+use Rattle.std.proofs.Common.{codes, refl, sym, ◌∙◌}
+use Rattle.dsm_top.specs.declared.plans.Plan.TheVariants.{Check, List as Listing}
 use Rattle.dsm_top.specs.Plans.{texts}
-use Rattle.dsm_top.proofs.Words.{fault-at_first, fault-at_second, one_word, one_word-further, two_words, two_words-further, asked_if, faulty_if}
+use Rattle.dsm_top.proofs.Words.{no_texts, texts-cons, alone-fault, fault-no_words, fault-no_command}
 use Rattle.dsm_top.proofs.planning.plan.Goals as goal
 
-pub returns-then-has_word-clause-plan : goal.returns-then-has_word-clause-plan
-returns-then-has_word-clause-plan c =
-    let ws = texts c.args.words.now in
-    asked_if ws Check 1 (length c.args.words.now) c.ended.result (rw length-map refl) (one_word Check ws refl (c.if-has_word.ensures.0 refl)) c.ended.ensures.ended
+pub returns-in_default-clause-fault : goal.returns-in_default-clause-fault
+returns-in_default-clause-fault c = rw (no_texts c.args.words.now c.in_default.ensures.cases) fault-no_words
 
-pub returns-then-has_word-clause-fault : goal.returns-then-has_word-clause-fault
-returns-then-has_word-clause-fault c =
-    let ws = texts c.args.words.now in
-    faulty_if ws 1 (length c.args.words.now) c.ended.result (rw length-map refl) (one_word-further Check ws refl (c.if-has_word.ensures.0 refl)) c.ended.ensures.further
+pub returns-in-check-clause-fault : goal.returns-in-check-clause-fault
+returns-in-check-clause-fault c =
+    let cut = texts-cons c.args.words.now c.in-Some.name.now c.in-Some.rest.now (codes "check") c.in-Some.ensures.cases.0 (sym c.in-check.is ∙ c.as_str.ensures.value) in
+    rw cut (alone-fault (codes "check") c.in-Some.rest.now Check refl (λ is. cc) c.alone.result c.alone.ensures.fault)
 
-pub returns-then-has_word-2-clause-plan : goal.returns-then-has_word-2-clause-plan
-returns-then-has_word-2-clause-plan c =
-    let ws = texts c.args.words.now in
-    asked_if ws Listing 1 (length c.args.words.now) c.ended-then-has_word-2.result (rw length-map refl) (one_word Listing ws refl (c.if-has_word-2.ensures.0 refl)) c.ended-then-has_word-2.ensures.ended
+pub returns-in-list-clause-fault : goal.returns-in-list-clause-fault
+returns-in-list-clause-fault c =
+    let cut = texts-cons c.args.words.now c.in-Some.name.now c.in-Some.rest.now (codes "list") c.in-Some.ensures.cases.0 (sym c.in-list.is ∙ c.as_str.ensures.value) in
+    rw cut (alone-fault (codes "list") c.in-Some.rest.now Listing refl (λ is. cc) c.alone-in-list.result c.alone-in-list.ensures.fault)
 
-pub returns-then-has_word-2-clause-fault : goal.returns-then-has_word-2-clause-fault
-returns-then-has_word-2-clause-fault c =
-    let ws = texts c.args.words.now in
-    faulty_if ws 1 (length c.args.words.now) c.ended-then-has_word-2.result (rw length-map refl) (one_word-further Listing ws refl (c.if-has_word-2.ensures.0 refl)) c.ended-then-has_word-2.ensures.further
-
-pub returns-then-not-has_word-clause-fault : goal.returns-then-not-has_word-clause-fault
-returns-then-not-has_word-clause-fault c =
-    let check = c.has_word.ensures.1 in
-    let list = c.has_word-2.ensures.1 in
-    let sim = c.has_word-3.ensures.1 in
-    fault-at_first (texts c.args.words.now) (λ is. let h = check is in cc) (λ is. let h = list is in cc) (λ is. let h = sim is in cc)
-
-pub returns-then-not-has_word-2-clause-fault : goal.returns-then-not-has_word-2-clause-fault
-returns-then-not-has_word-2-clause-fault c = fault-at_second (texts c.args.words.now) (c.if-not-has_word.ensures.0 refl) (λ is. let h = c.has_word-4.ensures.1 is in cc)
-
-pub returns-clause-plan : goal.returns-clause-plan
-returns-clause-plan c =
-    let ws = texts c.args.words.now in
-    asked_if ws Sim 2 (length c.args.words.now) c.ended-2.result (rw length-map refl) (two_words ws (c.if-not-has_word.ensures.0 refl) (c.if-not-has_word-2.ensures.0 refl)) c.ended-2.ensures.ended
-
-pub returns-clause-fault : goal.returns-clause-fault
-returns-clause-fault c =
-    let ws = texts c.args.words.now in
-    faulty_if ws 2 (length c.args.words.now) c.ended-2.result (rw length-map refl) (two_words-further ws (c.if-not-has_word.ensures.0 refl) (c.if-not-has_word-2.ensures.0 refl)) c.ended-2.ensures.further
+pub returns-in_default-as_str-clause-fault : goal.returns-in_default-as_str-clause-fault
+returns-in_default-as_str-clause-fault c =
+    let cut = texts-cons c.args.words.now c.in-Some.name.now c.in-Some.rest.now c.as_str.result.now c.in-Some.ensures.cases.0 c.as_str.ensures.value in
+    rw cut (fault-no_command c.as_str.result.now (texts c.in-Some.rest.now) c.in_default-as_str.not-check c.in_default-as_str.not-list c.in_default-as_str.not-sim)

@@ -1,0 +1,69 @@
+-- On one node a run whose log is legal is flat in every word that is ordered.
+use Rattle.std.proofs.Common.{◌≡◌, ℕ, ◌+◌, ◌*◌, ◌/◌, ◌%◌, ◌<◌, List, map, sym, ap, ◌∙◌, subst, arith, slice_index}
+use Rattle.std.proofs.Math.Nat.{mod-one}
+use Rattle.std.proofs.lemmas.List.FromFn.{get_or-map-range_with_len}
+use Rattle.dsm_words.specs.declared.item.Item.TheVariants.{Frame}
+use Rattle.dsm_words.specs.Words.{word}
+use Rattle.dsm_flat.specs.Order.{Traces}
+use Rattle.dsm_flat.specs.Flat.{Ordered, Flat, Sourced, Final}
+use Rattle.dsm_flat.specs.Sync.{SyncLegal}
+use Rattle.dsm_flat.specs.Laws.{Raises}
+use Rattle.dsm_flat.proofs.History.{Log, IsHistory, rank}
+use Rattle.dsm_flat.proofs.Legal.{Legal, rank_raises, sync_legal}
+use Rattle.dsm_flat.proofs.Flatness.{latest, sourced, flat, final_value}
+use Rattle.dsm_core.specs.Setups.{Setup, lay_in, initial}
+use Rattle.dsm_core.specs.Clusters.{Cluster, Event, start, exactly, after_all_loose, reached}
+use Rattle.dsm_core.specs.Outcomes.{Ran, ran_of, master}
+use Rattle.dsm_core.proofs.Reaching.{reached_is_loose}
+use Rattle.dsm_core.proofs.Logs.{log_of}
+use Rattle.dsm_core.proofs.Histories.{traces_of, is_history}
+use Rattle.dsm_core.proofs.OneNode.{IsFlatLog, flat_log}
+
+-- the synchronisation of P processors is legal, each load has a source, and each ordered word is flat and has its last store
+pub record IsFlatWhereOrdered (s : Setup) (P : ℕ) (ran : Ran) : Type 0 where
+  pub synchronised : SyncLegal ran.traces P
+  pub sourced : (w : ℕ) → Sourced ran.traces (initial s.program.init w) w
+  pub flat : (w : ℕ) → Ordered ran.traces w → Flat ran.traces (initial s.program.init w) w
+  pub last : (w : ℕ) → w < s.program.shape.pages * s.program.shape.words → Ordered ran.traces w → Final ran.traces (initial s.program.init w) w (slice_index ran.pages w)
+
+module _ (s : Setup) (one : s.nodes ≡ 1) (P : ℕ) (events : List Event) (legal : Legal P (log_of s (map exactly events))) where
+  -- the run's log, its last state, its traces, and the values that the addresses start with
+  abbrev log : Log
+  log = log_of s (map exactly events)
+
+  abbrev end : Cluster
+  end = after_all_loose s (start s) (map exactly events)
+
+  abbrev ts : Traces
+  ts = traces_of end.processors
+
+  abbrev init : ℕ → ℕ
+  init w = initial s.program.init w
+
+  history : IsHistory log ts
+  history = is_history s (map exactly events)
+
+  raises : Raises ts (rank log)
+  raises = rank_raises P log ts history legal
+
+  told : IsFlatLog s one end log
+  told = flat_log s one events
+
+  -- the word of each address at its home is that of the log
+  page_is : (w : ℕ) → w < s.program.shape.pages * s.program.shape.words → slice_index (ran_of s end).pages w ≡ latest (init w) w log
+  page_is w below =
+      let at : 0 + w ≡ w = omega arith in
+      let home : w / s.program.shape.words % s.nodes ≡ 0 = ap (λ n. w / s.program.shape.words % n) one ∙ mod-one (w / s.program.shape.words) in
+      get_or-map-range_with_len (λ v. word (lay_in s) end.words (master s v)) 0 (s.program.shape.pages * s.program.shape.words) w w 0 below at
+      ∙ ap (λ n. word (lay_in s) end.words (Frame n (w / s.program.shape.words) (w % s.program.shape.words))) home
+      ∙ told.held w below
+
+  pub flat_where_legal : IsFlatWhereOrdered s P (ran_of s (reached s events))
+  flat_where_legal =
+      subst (λ c. IsFlatWhereOrdered s P (ran_of s c)) (sym (reached_is_loose s events))
+      (record {
+        synchronised = sync_legal P log ts history legal;
+        sourced = λ w. sourced init log ts history raises told.in_order w;
+        flat = λ w ord. flat init log ts history raises told.in_order w ord;
+        last = λ w below ord. subst (λ v. Final ts (init w) w v) (sym (page_is w below)) (final_value init log ts history raises told.in_order w ord);
+      })

@@ -1,0 +1,47 @@
+// One event of one machine.
+ghost use Rattle.std.specs.Prelude.{◌≡◌, None, List, IsTrue, length};
+ghost use Rattle.dsm_isa.specs.declared.instr.Instr.{Instr};
+ghost use Rattle.dsm_isa.specs.Rules.{ObjectsInside};
+ghost use Rattle.dsm_words.specs.Place.{total};
+ghost use Rattle.dsm_words.specs.Words.{done, reply};
+ghost use Rattle.dsm_machine.specs.Jobs.{first_act, held_turn};
+ghost use Rattle.dsm_machine.specs.Processors.{ending, after_answer, wanting as wanting_if};
+ghost use Rattle.dsm_machine.specs.Machines.{who, seen, processor_in, sizes_in, HasRoom};
+
+use dsm_isa::code::Code;
+use dsm_machine::machine::Machine;
+use dsm_words::op::apply;
+
+/// Makes room for the entry of the machine's next event. Where there is no memory for it, the machine starves, which is
+/// answered by true.
+pub(crate) fn starves(machine: &mut Machine) -> bool
+    requires { ending (seen machine.old) ≡ None }
+    ensures who { who machine.new ≡ who machine.old }
+    ensures wanting { (code : List Instr) → processor_in machine.new code ≡ wanting_if (who machine.old) result (processor_in machine.old code) }
+    ensures turn { IsTrue result → (code : List Instr) → held_turn (processor_in machine.old code).todo ≡ None }
+    ensures runs { ending (seen machine.new) ≡ None }
+    ensures room { HasRoom machine.new }
+{
+    if machine.ready().is_ok() {
+        return false;
+    }
+    machine.starve();
+    true
+}
+
+/// The machine makes its next operation on the words, and takes the answer.
+pub(crate) fn act(words: &mut [u64], machine: &mut Machine, code: &Code)
+    requires words { length words.old ≡ total (who machine.old).lay }
+    requires objects { ObjectsInside (sizes_in (who machine.old).lay) code.now }
+    requires runs { ending (seen machine.old) ≡ None }
+    requires room { HasRoom machine.old }
+    ensures who { who machine.new ≡ who machine.old }
+    ensures words { words.new ≡ done (who machine.old).lay words.old (first_act (processor_in machine.old code.now).todo) }
+    ensures event { processor_in machine.new code.now ≡ after_answer (who machine.old) code.now (processor_in machine.old code.now) (reply (who machine.old).lay words.old (first_act (processor_in machine.old code.now).todo)) }
+{
+    let Some(op) = machine.next(code) else {
+        unreachable!()
+    };
+    let got = apply(words, op);
+    machine.after(code, got);
+}

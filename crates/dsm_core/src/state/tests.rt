@@ -1,0 +1,137 @@
+ghost use Rattle.dsm_core.specs.States.{IsFor};
+
+use super::{State, Step};
+use crate::ran::Ran;
+use dsm_entry::entry::{Entry, Obj};
+use dsm_isa::code::Code;
+use dsm_isa::instr::Instr;
+use dsm_isa::program::Program;
+use dsm_isa::reg::Reg;
+use dsm_isa::shape::Shape;
+use dsm_local::end::End;
+use dsm_machine::counts::Counts;
+use dsm_machine::limits::Limits;
+use dsm_words::topology::Topology;
+use std::alloc::Global;
+use std::process::Abort;
+use std::test::Fail;
+
+const LIMITS: Limits = Limits {
+    turns: 100,
+    looks: Some(100),
+};
+
+/// So many pages of one word, with one lock, one barrier and one flag.
+fn program(
+    alloc: Global,
+    pages: u32,
+    init: &[(u32, u64)],
+    list: &[Instr],
+) -> Result<Program, Fail> {
+    let shape = Shape::new(pages, 1, 1, 1, 1).ok_or("no shape")?;
+    let code = Code::new(list.to_vec(alloc)?)?;
+    Ok(Program::new(shape, init.to_vec(alloc)?, code).ok_or("no program")?)
+}
+
+/// One event of each of these processors.
+fn steps(rt: &impl Abort, state: &mut State, program: &Program, list: &[u32])
+    requires { IsFor state.old program.now }
+    ensures { IsFor state.new program.now }
+{
+    for p in list {
+        assert!(rt; *p < state.all());
+        assert_eq!(rt; state.step(program, *p), Step::Did);
+    }
+}
+
+/// The trace of processor `p` in what was left.
+fn has_trace(rt: &impl Abort, ran: &Ran, p: usize, entries: &[Entry]) {
+    assert!(rt; p < ran.traces.len());
+    assert_eq!(rt; ran.traces[p].len(), entries.len() as u64);
+    for (i, entry) in entries.iter().enumerate() {
+        assert_eq!(rt; ran.traces[p].get(i as u64), Some(*entry));
+    }
+}
+
+/// What a processor does that adds 1 to word 0 under lock 0, passed with count `c`, where the word was `v`, and that
+/// halts as arrival `a`.
+fn adds(c: u64, v: u64, a: u64) -> [Entry; 6] {
+    let lock = Obj::Lock(0);
+    let close = Obj::Close;
+    [
+        Entry::Pass { o: lock, c },
+        Entry::Load { w: 0, v },
+        Entry::Store {
+            w: 0,
+            v: v.wrapping_add(1),
+        },
+        Entry::Signal { o: lock, j: c },
+        Entry::Signal { o: close, j: a },
+        Entry::Pass { o: close, c: 2 },
+    ]
+}
+
+// Two processors in turn add 1 to a word under a lock. Processor 1 loses its first exchange, finds the lock held, and
+// then takes it; processor 0 looks three times at the closing barrier before processor 1 arrives.
+#[test]
+fn locks_in_turn(rt: HostRuntime) -> Result<(), Fail> {
+    let (d, a) = (
+        Reg::new(3).ok_or("no register")?,
+        Reg::new(2).ok_or("no register")?,
+    );
+    let list = [
+        Instr::Lock { l: 0 },
+        Instr::Ld { d, a, k: 0 },
+        Instr::Addi { d, a: d, k: 1 },
+        Instr::St { s: d, a, k: 0 },
+        Instr::Unlock { l: 0 },
+        Instr::Halt,
+    ];
+    let program = program(rt.alloc(), 1, &[], &list)?;
+    let mut state = State::start(rt.alloc(), &program, Topology::new(1, 2)?, LIMITS)?;
+    let round = [
+        0, 1, 0, 1, 0, 1, 0, 1, 0, 1, 0, 1, 0, 1, 0, 1, 0, 1, 0, 1, 0, 1, 0, 1, 0, 1,
+    ];
+    steps(&rt, &mut state, &program, &round);
+    assert_eq!(rt; state.all(), 2);
+    assert_eq!(rt; (state.end(0), state.end(1)), (None, Some(End::Halted)));
+    assert!(rt; !state.ended());
+    assert_eq!(rt; state.step(&program, 1), Step::Ended);
+    assert_eq!(rt; state.step(&program, 0), Step::Did);
+    assert!(rt; state.ended());
+    assert_eq!(rt; state.step(&program, 0), Step::Ended);
+    let ran = state.into_ran(rt.alloc())?;
+    has_trace(&rt, &ran, 0, &adds(0, 0, 0));
+    has_trace(&rt, &ran, 1, &adds(1, 1, 1));
+    assert_eq!(rt; ran.traces.len(), 2);
+    assert_eq!(rt;
+        ran.ends.as_slice(),
+        [Some(End::Halted), Some(End::Halted)].as_slice()
+    );
+    assert_eq!(rt; ran.pages.as_slice(), [2].as_slice());
+    assert!(rt; ran.is_halted());
+    assert!(rt; !ran.wants_memory());
+    let mut counts = Counts::none();
+    counts.unready = 5;
+    assert_eq!(rt; ran.counts, counts);
+    Ok(())
+}
+
+// Two nodes and two pages of one word: each page has its value at its home alone, and the clocks, behind eight blocks
+// of four words, are 1.
+#[test]
+fn starts_at_the_homes(rt: HostRuntime) -> Result<(), Fail> {
+    let program = program(rt.alloc(), 2, &[(0, 5), (1, 6)], &[Instr::Halt])?;
+    let state = State::start(rt.alloc(), &program, Topology::new(2, 1)?, LIMITS)?;
+    let mut words = [0; 51];
+    words[1] = 5;
+    words[4] = 6;
+    words[33] = 1;
+    words[34] = 1;
+    assert_eq!(rt; state.words.as_slice(), words.as_slice());
+    let ran = state.into_ran(rt.alloc())?;
+    assert_eq!(rt; ran.pages.as_slice(), [5, 6].as_slice());
+    assert_eq!(rt; ran.ends.as_slice(), [None, None].as_slice());
+    assert!(rt; !ran.is_halted());
+    Ok(())
+}

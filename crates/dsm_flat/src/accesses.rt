@@ -1,0 +1,57 @@
+// The accesses to a word.
+ghost use Rattle.std.specs.Prelude.{◌≡◌, ◌+◌, ◌<◌, ◌^◌, length, IfOk, OnOk};
+ghost use Rattle.dsm_flat.specs.Judge.{lists_of};
+ghost use Rattle.dsm_flat.specs.Accesses.{kind_of, IsListed, first_place};
+
+use dsm_entry::entry::{Entry, NoMemory, Place};
+use dsm_entry::trace::Trace;
+use std::alloc::Global;
+
+/// A place that loads or stores the word in question.
+#[derive(Clone, Copy, Debug, PartialEq, Eq)]
+pub struct Access {
+    pub place: Place,
+    pub stores: bool,
+}
+
+// Whether an entry stores to w, and None where it doesn't access w.
+fn kind(e: Entry, w: u32) -> Option<bool>
+    ensures { result ≡ kind_of w e }
+{
+    match e {
+        Entry::Load { w: at, .. } if at == w => Some(false),
+        Entry::Store { w: at, .. } if at == w => Some(true),
+        _ => None,
+    }
+}
+
+// Appends the accesses of one trace to those of the traces before it.
+fn add_trace(traces: &[Trace], p: usize, w: u32, list: &mut Vec<Access>) -> Result<(), NoMemory>
+    requires p { p < length traces.now }
+    requires few { length traces.now < 2 ^ 32 }
+    requires listed { IsListed (lists_of traces.now) w (first_place p) list.old.items }
+    ensures { OnOk result (IsListed (lists_of traces.now) w (first_place (p + 1)) list.new.items) }
+{
+    let trace = &traces[p];
+    for i in 0..trace.len() {
+        if let Some(e) = trace.get(i) {
+            if let Some(stores) = kind(e, w) {
+                let place = Place { p: p as u32, i };
+                list.push(Access { place, stores })?;
+            }
+        }
+    }
+    Ok(())
+}
+
+/// All accesses to `w`, in the order of their places.
+pub fn accesses(alloc: Global, traces: &[Trace], w: u32) -> Result<Vec<Access>, NoMemory>
+    requires { length traces.now < 2 ^ 32 }
+    ensures { IfOk result (λ v. IsListed (lists_of traces.now) w (first_place (length traces.now)) v.items) }
+{
+    let mut list = Vec::new(alloc);
+    for p in 0..traces.len() {
+        add_trace(traces, p, w, &mut list)?;
+    }
+    Ok(list)
+}

@@ -1,0 +1,75 @@
+// Whether the accesses to a word are ordered.
+ghost use Rattle.std.specs.Prelude.{◌≡◌, ℕ, ◌+◌, ◌<◌, ◌^◌, ◌↔◌, length, IfOk, IsTrue, MatchOption};
+ghost use Rattle.dsm_entry.specs.declared.entry.Place.{Place};
+ghost use Rattle.dsm_flat.specs.declared.verdict.Verdict.TheVariants.{Ordered as SaysOrdered, Raced as SaysRaced};
+ghost use Rattle.dsm_flat.specs.Flat.{Ordered};
+ghost use Rattle.dsm_flat.specs.Judge.{lists_of, IsFirstRace};
+ghost use Rattle.dsm_flat.specs.Accesses.{AreAt, AreRows, AreWide, IsOrderedBy, IsRacyAt, IsOrderedUpTo};
+
+use crate::accesses::{Access, accesses};
+use crate::links::links;
+use crate::reach::reach;
+use crate::row::Row;
+use crate::verdict::Verdict;
+use dsm_entry::entry::NoMemory;
+use dsm_entry::trace::Trace;
+use std::alloc::Global;
+
+#[cfg(test)]
+mod tests;
+
+// For each access of the list what it is before.
+fn rows(alloc: Global, traces: &[Trace], list: &[Access]) -> Result<Vec<Row>, NoMemory>
+    requires { AreAt (lists_of traces.now) list.now }
+    ensures { IfOk result (λ v. AreRows (lists_of traces.now) list.now v.items) }
+{
+    let links = links(alloc, traces)?;
+    let mut rows = Vec::new(alloc);
+    for x in list {
+        rows.push(reach(alloc, traces, &links, x.place)?)?;
+    }
+    Ok(rows)
+}
+
+// Whether two accesses need no order or have one. The rows say what each is before.
+fn is_ordered(x: Access, after_x: &Row, y: Access, after_y: &Row) -> bool
+    requires x { x.place.p < length after_y.now }
+    requires y { y.place.p < length after_x.now }
+    ensures { IsTrue result ↔ IsOrderedBy x after_x.now y after_y.now }
+{
+    !x.stores && !y.stores || after_x.covers(y.place) || after_y.covers(x.place)
+}
+
+// The first access behind the k-th that is not ordered with it.
+fn first_racy(list: &[Access], rows: &[Row], k: usize) -> Option<usize>
+    requires k { k < length list.now }
+    requires wide { AreWide list.now rows.now }
+    ensures { MatchOption result (IsOrderedUpTo list.now rows.now k (length list.now)) (λ m. (k < m) × (m < length list.now) × IsOrderedUpTo list.now rows.now k m × IsRacyAt list.now rows.now k m) }
+{
+    for m in k + 1..list.len() {
+        if !is_ordered(list[k], &rows[k], list[m], &rows[m]) {
+            return Some(m);
+        }
+    }
+    None
+}
+
+/// Ordered exactly where every two conflicting places of `w` are, else the first pair that is not: the
+/// least x, then the least y above x, in the order of places.
+pub fn judge(alloc: Global, traces: &[Trace], w: u32) -> Result<Verdict, NoMemory>
+    requires { length traces.now < 2 ^ 32 }
+    ensures ordered { IfOk result (λ v. (v ≡ SaysOrdered) ↔ Ordered (lists_of traces.now) w) }
+    ensures raced { IfOk result (λ v. (x y : Place) → (v ≡ SaysRaced x y) ↔ IsFirstRace (lists_of traces.now) w x y) }
+{
+    let list = accesses(alloc, traces, w)?;
+    let rows = rows(alloc, traces, &list)?;
+    for k in 0..list.len() {
+        if let Some(m) = first_racy(&list, &rows, k) {
+            return Ok(Verdict::Raced {
+                x: list[k].place,
+                y: list[m].place,
+            });
+        }
+    }
+    Ok(Verdict::Ordered)
+}

@@ -1,0 +1,7 @@
+// The schedules: whose event comes next.
+#![tactic(auto)]
+
+pub mod kind;
+pub mod simulation;
+#[cfg(test)]
+mod tests;

@@ -1,0 +1,147 @@
+use crate::kind::Kind;
+use crate::simulation::{Simmed, sim};
+use dsm_core::ran::Ran;
+use dsm_entry::entry::{Entry, Obj};
+use dsm_isa::code::Code;
+use dsm_isa::instr::Instr;
+use dsm_isa::program::Program;
+use dsm_isa::reg::Reg;
+use dsm_isa::shape::Shape;
+use dsm_local::end::{End, Trap};
+use dsm_machine::limits::Limits;
+use dsm_words::topology::Topology;
+use std::alloc::Global;
+use std::process::Abort;
+use std::test::Fail;
+
+/// What so many events leave of these instructions, where each of so many processors of one node may do ten. There is
+/// one page of one word, one lock and one flag.
+fn simmed(alloc: Global, list: &[Instr], procs: u32, steps: u64) -> Result<Simmed, Fail> {
+    let shape = Shape::new(1, 1, 1, 0, 1).ok_or("no shape")?;
+    let code = Code::new(list.to_vec(alloc)?)?;
+    let program = Program::new(shape, Vec::new(alloc), code).ok_or("no program")?;
+    let t = Topology::new(1, procs)?;
+    let limits = Limits {
+        turns: 10,
+        looks: Some(100),
+    };
+    Ok(sim(alloc, &program, t, limits, Kind::Round, steps)?)
+}
+
+/// The trace of processor `p` in what was left.
+fn has_trace(rt: &impl Abort, ran: &Ran, p: usize, entries: &[Entry]) {
+    assert!(rt; p < ran.traces.len());
+    assert_eq!(rt; ran.traces[p].len(), entries.len() as u64);
+    for (i, entry) in entries.iter().enumerate() {
+        assert_eq!(rt; ran.traces[p].get(i as u64), Some(*entry));
+    }
+}
+
+fn pass(o: Obj, c: u64) -> Entry {
+    Entry::Pass { o, c }
+}
+
+fn signal(o: Obj, j: u64) -> Entry {
+    Entry::Signal { o, j }
+}
+
+/// What a processor does that adds 1 to word 0 under lock 0, where it is the `k`-th to do so, from 0, and that halts.
+fn adds(k: u64) -> [Entry; 6] {
+    let lock = Obj::Lock(0);
+    let v = k.wrapping_add(1);
+    [
+        pass(lock, k),
+        Entry::Load { w: 0, v: k },
+        Entry::Store { w: 0, v },
+        signal(lock, k),
+        signal(Obj::Close, k),
+        pass(Obj::Close, 2),
+    ]
+}
+
+// Two processors add 1 to a word under a lock. Processor 1 loses its exchange against processor 0, finds the lock held,
+// and takes it once it is given back; processor 0 looks three times at the closing barrier before processor 1 arrives,
+// which passes it first. Processor 0 passes it in event 27.
+#[test]
+fn makes_as_many_events_as_allowed(rt: HostRuntime) -> Result<(), Fail> {
+    let a = Reg::new(2).ok_or("no register")?;
+    let d = Reg::new(3).ok_or("no register")?;
+    let list = [
+        Instr::Lock { l: 0 },
+        Instr::Ld { d, a, k: 0 },
+        Instr::Addi { d, a: d, k: 1 },
+        Instr::St { s: d, a, k: 0 },
+        Instr::Unlock { l: 0 },
+        Instr::Halt,
+    ];
+    let halted = Some(End::Halted);
+    let rows = [
+        (0, true, None, None),
+        (25, true, None, None),
+        (26, true, None, halted),
+        (27, false, halted, halted),
+        (28, false, halted, halted),
+    ];
+    for (steps, cut, first, second) in rows {
+        let left = simmed(rt.alloc(), &list, 2, steps)?;
+        assert_eq!(rt; left.cut, cut, "after {steps}");
+        assert_eq!(rt;
+            left.ran.ends.as_slice(),
+            [first, second].as_slice(),
+            "after {steps}"
+        );
+    }
+    let left = simmed(rt.alloc(), &list, 2, 27)?;
+    has_trace(&rt, &left.ran, 0, &adds(0));
+    has_trace(&rt, &left.ran, 1, &adds(1));
+    assert_eq!(rt; left.ran.pages.as_slice(), [2].as_slice());
+    assert_eq!(rt; left.ran.counts.unready, 5);
+    Ok(())
+}
+
+// Three processors raise a flag, each signal with a number of its own: 0 to 2 in their order. Then processor 1 traps
+// where the others raise it twice more, and behind its end come processor 2, 0, 2 and so on.
+#[test]
+fn goes_round(rt: HostRuntime) -> Result<(), Fail> {
+    let a = Reg::new(1).ok_or("no register")?;
+    let b = Reg::new(2).ok_or("no register")?;
+    let list = [
+        Instr::Set { f: 0 },
+        Instr::Me { d: a },
+        Instr::Li { d: b, k: 1 },
+        Instr::Beq { a, b, to: 6 },
+        Instr::Set { f: 0 },
+        Instr::Set { f: 0 },
+        Instr::Unlock { l: 0 },
+    ];
+    let flag = Obj::Flag(0);
+    let trapped = Some(End::Trapped {
+        at: 6,
+        kind: Trap::NotHeld { l: 0 },
+    });
+    for (steps, cut, last) in [(18, true, None), (19, false, trapped)] {
+        let left = simmed(rt.alloc(), &list, 3, steps)?;
+        assert_eq!(rt; left.cut, cut, "after {steps}");
+        assert_eq!(rt;
+            left.ran.ends.as_slice(),
+            [trapped, trapped, last].as_slice(),
+            "after {steps}"
+        );
+        has_trace(&rt, &left.ran, 0, &[0, 3, 5].map(|j| signal(flag, j)));
+        has_trace(&rt, &left.ran, 1, &[signal(flag, 1)]);
+        has_trace(&rt, &left.ran, 2, &[2, 4, 6].map(|j| signal(flag, j)));
+    }
+    Ok(())
+}
+
+// A processor that may do ten instructions is spent in its eleventh event.
+#[test]
+fn is_spent(rt: HostRuntime) -> Result<(), Fail> {
+    for (steps, cut, end) in [(10, true, None), (11, false, Some(End::Spent))] {
+        let left = simmed(rt.alloc(), &[Instr::Jmp { to: 0 }], 1, steps)?;
+        assert_eq!(rt; left.cut, cut, "after {steps}");
+        assert_eq!(rt; left.ran.ends.as_slice(), [end].as_slice(), "after {steps}");
+        has_trace(&rt, &left.ran, 0, &[]);
+    }
+    Ok(())
+}

@@ -1,0 +1,16 @@
+use Rattle.std.proofs.Common.{codes}
+use Rattle.dsm_top.specs.Plans.{kind_of, turns_of, looks_of, steps_of}
+use Rattle.dsm_top.proofs.Settings.{given-Any, kind-named, turns-named, looks-named, steps-named}
+use Rattle.dsm_top.proofs.planning.Given.has.Goals as goal
+
+pub returns-in-Kind : goal.returns-in-Kind
+returns-in-Kind c settings given = rw (c.is_some.ensures, c.in-Kind.is) (given-Any kind_of (codes "kind") kind-named settings c.args.self.kind given.kind)
+
+pub returns-in-Turns : goal.returns-in-Turns
+returns-in-Turns c settings given = rw (c.is_some-in-Turns.ensures, c.in-Turns.is) (given-Any turns_of (codes "turns") turns-named settings c.args.self.turns given.turns)
+
+pub returns-in-Looks : goal.returns-in-Looks
+returns-in-Looks c settings given = rw (c.is_some-in-Looks.ensures, c.in-Looks.is) (given-Any looks_of (codes "looks") looks-named settings c.args.self.looks given.looks)
+
+pub returns-in-Steps : goal.returns-in-Steps
+returns-in-Steps c settings given = rw (c.is_some-in-Steps.ensures, c.in-Steps.is) (given-Any steps_of (codes "steps") steps-named settings c.args.self.steps given.steps)

@@ -1,0 +1,120 @@
+// Which words ask for a plan, and which word is the first faulty one.
+use super::*;
+use std::test::Fail;
+
+/// What some words ask for.
+#[derive(Clone, Copy)]
+enum Wanted {
+    Check,
+    List,
+    /// `sim` on one node of so many processors, with these turns, looks and steps.
+    Sim(u32, u64, u64, u64),
+    /// The number of the first faulty word.
+    Fault(u64),
+}
+
+use Wanted::{Check, Fault, List, Sim};
+
+const ROWS: &[(&[&str], Wanted)] = &[
+    (&["check"], Check),
+    (&["list"], List),
+    (&["sim", "1x1"], Sim(1, 200_000, 50_000_000, 100_000_000)),
+    (&["sim", "1x8"], Sim(8, 200_000, 50_000_000, 100_000_000)),
+    (
+        &["sim", "1x4", "kind=round", "turns=5", "looks=6", "steps=7"],
+        Sim(4, 5, 6, 7),
+    ),
+    (
+        &[
+            "sim",
+            "1x2",
+            "steps=1000000000000",
+            "looks=1000000000",
+            "turns=1000000",
+            "kind=round",
+        ],
+        Sim(2, 1_000_000, 1_000_000_000, 1_000_000_000_000),
+    ),
+    (&["sim", "1x3", "looks=1"], Sim(3, 200_000, 1, 100_000_000)),
+    (&[], Fault(1)),
+    (&["trace"], Fault(1)),
+    (&["sim 1x1"], Fault(1)),
+    (&["check", "x"], Fault(2)),
+    (&["list", "list"], Fault(2)),
+    (&["sim"], Fault(2)),
+    (&["sim", "9x1"], Fault(2)),
+    (&["sim", "2x1"], Fault(2)),
+    (&["sim", "0x1"], Fault(2)),
+    (&["sim", "1x9"], Fault(2)),
+    (&["sim", "1x0"], Fault(2)),
+    (&["sim", "01x1"], Fault(2)),
+    (&["sim", "1x01"], Fault(2)),
+    (&["sim", "1x"], Fault(2)),
+    (&["sim", "x1"], Fault(2)),
+    (&["sim", "11"], Fault(2)),
+    (&["sim", "1x1x1"], Fault(2)),
+    (&["sim", "1X1"], Fault(2)),
+    (&["sim", "+1x1"], Fault(2)),
+    (&["sim", "1x4294967297"], Fault(2)),
+    (&["sim", "turns=5", "1x1"], Fault(2)),
+    (&["sim", "1x1", "turns=5", "turns=5"], Fault(4)),
+    (
+        &["sim", "1x1", "kind=round", "turns=5", "kind=round"],
+        Fault(5),
+    ),
+    (&["sim", "1x1", "looks=1", "looks=2"], Fault(4)),
+    (
+        &["sim", "1x1", "steps=1", "looks=2", "steps=1", "x"],
+        Fault(5),
+    ),
+    (&["sim", "1x1", "turns=0"], Fault(3)),
+    (&["sim", "1x1", "turns=1000001"], Fault(3)),
+    (&["sim", "1x1", "turns=05"], Fault(3)),
+    (&["sim", "1x1", "turns="], Fault(3)),
+    (&["sim", "1x1", "turns"], Fault(3)),
+    (&["sim", "1x1", "turns=18446744073709551617"], Fault(3)),
+    (&["sim", "1x1", "looks=0"], Fault(3)),
+    (&["sim", "1x1", "looks=1000000001"], Fault(3)),
+    (&["sim", "1x1", "steps=0"], Fault(3)),
+    (&["sim", "1x1", "steps=1000000000001"], Fault(3)),
+    (&["sim", "1x1", "trace"], Fault(3)),
+    (&["sim", "1x1", "seed=1"], Fault(3)),
+    (&["sim", "1x1", "kind=mixed"], Fault(3)),
+    (&["sim", "1x1", "1x1"], Fault(3)),
+    (&["sim", "1x1", ""], Fault(3)),
+];
+
+/// The answer that a row wants.
+fn answer(wanted: Wanted) -> Result<Result<Plan, u64>, Fail> {
+    Ok(match wanted {
+        Check => Ok(Plan::Check),
+        List => Ok(Plan::List),
+        Sim(procs, turns, looks, steps) => Ok(Plan::Sim {
+            t: Topology::new(1, procs).ok().ok_or("no such cluster")?,
+            limits: Limits {
+                turns,
+                looks: Some(looks),
+            },
+            kind: Kind::Round,
+            steps,
+        }),
+        Fault(k) => Err(k),
+    })
+}
+
+/// What `plan` answers to these words.
+fn planned(rt: &HostRuntime, words: &[&str]) -> Result<Result<Plan, u64>, Fail> {
+    let mut strings = Vec::new(rt.alloc());
+    for word in words {
+        strings.push(String::from_str(rt.alloc(), word)?)?;
+    }
+    Ok(plan(strings.as_slice()))
+}
+
+#[test]
+fn plans(rt: HostRuntime) -> Result<(), Fail> {
+    for (words, wanted) in ROWS {
+        assert_eq!(rt; planned(&rt, words)?, answer(*wanted)?, "{words:?}");
+    }
+    Ok(())
+}

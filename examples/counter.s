@@ -1,0 +1,23 @@
+; Each processor adds 1 to word 0 a hundred times; processor 0 prints the sum. Run it with `sim 1x4`.
+; Look at the line `out 0 400`: no addition is lost, since each load and store of word 0 stands between `lock 0` and
+; `unlock 0`. Take these two lines away, and processors that load before another has stored lose additions.
+; Take only `unlock 0` away, and all wait for the processor that holds the lock, and it for itself: with `looks=100`
+; they end as `looked`.
+.words 4
+.locks 1
+.barriers 1
+li r1 100       ; how often it still adds
+li r2 0         ; the address
+loop: lock 0
+ld r3 r2 0
+addi r3 r3 1
+st r3 r2 0
+unlock 0
+subi r1 r1 1
+bne r1 r2 loop
+bar 0           ; all have added
+me r4
+bne r4 r2 end
+ld r3 r2 0
+out r3
+end: halt

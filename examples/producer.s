@@ -1,0 +1,25 @@
+; Processor 0 produces 3 values and sets flag 0 after each; the others wait for each value, and print it. Run it with
+; `sim 1x3`.
+; Look at `waitr 0 r3`: it waits until the flag was set r3 times, so the k-th value is there when it is loaded. With
+; `wait 0 1` in its place a consumer that is fast prints values that are not there yet.
+.words 4
+.flags 1
+me r1
+li r2 0         ; the address of the next value
+li r3 1         ; its number, from 1
+li r4 3
+beq r1 r0 produce
+consume: waitr 0 r3
+ld r5 r2 0
+out r5
+addi r2 r2 1
+addi r3 r3 1
+bge r4 r3 consume
+halt
+produce: muli r5 r3 10
+st r5 r2 0
+set 0
+addi r2 r2 1
+addi r3 r3 1
+bge r4 r3 produce
+halt
