@@ -1,8 +1,8 @@
 ; Each processor adds 1 to word 0 a hundred times; processor 0 prints the sum. Run it with `sim 1x4`.
 ; Look at the line `out 0 400`: no addition is lost, since each load and store of word 0 stands between `lock 0` and
-; `unlock 0`. Take these two lines away, and processors that load before another has stored lose additions.
-; Take only `unlock 0` away, and all wait for the processor that holds the lock, and it for itself: with `looks=100`
-; they end as `looked`.
+; `unlock 0`. Take these two words away, `lock 0` behind its label and the line `unlock 0`: all four load before one has
+; stored, and 300 additions are lost. Take only the line `unlock 0` away: all wait for a lock that nobody gives back, and
+; with `looks=100` they end as `looked`, or as `stopped by` one that did.
 .words 4
 .locks 1
 .barriers 1

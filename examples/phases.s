@@ -1,12 +1,16 @@
 ; Two phases with a barrier between: each processor stores its square to the word of its number, and behind the
 ; barrier it prints the word of its right neighbour. Run it with `sim 1x4`.
 ; Look at the lines `out`: processor 0 prints 1, the square of 1, and processor 3 prints 0, the square of 0. Take `bar 0`
-; away, and whoever comes first prints what is not there yet.
+; away, and all print 0: a processor with a smaller number is done sooner, and loads what is not there yet.
 .words 8
 .barriers 1
 me r1
-mul r2 r1 r1
-st r2 r1 0
+mov r3 r1
+sum: beq r3 r0 done
+add r2 r2 r1    ; the square as a sum: r1 times r1
+subi r3 r3 1
+jmp sum
+done: st r2 r1 0
 bar 0
 procs r3
 addi r4 r1 1

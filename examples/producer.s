@@ -1,7 +1,7 @@
 ; Processor 0 produces 3 values and sets flag 0 after each; the others wait for each value, and print it. Run it with
 ; `sim 1x3`.
-; Look at `waitr 0 r3`: it waits until the flag was set r3 times, so the k-th value is there when it is loaded. With
-; `wait 0 1` in its place a consumer that is fast prints values that are not there yet.
+; Look at `waitr 0 r3`: it waits until the flag was set r3 times, so the value of that number is there when it is
+; loaded. With `wait 0 1` in its place the consumers wait for the first value alone, and print 0 for those that come later.
 .words 4
 .flags 1
 me r1
@@ -16,7 +16,10 @@ addi r2 r2 1
 addi r3 r3 1
 bge r4 r3 consume
 halt
-produce: muli r5 r3 10
+produce: li r6 20
+work: subi r6 r6 1
+bne r6 r0 work  ; it takes its time
+muli r5 r3 10
 st r5 r2 0
 set 0
 addi r2 r2 1

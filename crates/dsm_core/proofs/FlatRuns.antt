@@ -8,9 +8,11 @@ use Rattle.dsm_flat.specs.Order.{Traces}
 use Rattle.dsm_flat.specs.Flat.{Ordered, Flat, Sourced, Final}
 use Rattle.dsm_flat.specs.Sync.{SyncLegal}
 use Rattle.dsm_flat.specs.Laws.{Raises}
+use Rattle.dsm_flat.specs.WordLaw.{latest}
 use Rattle.dsm_flat.proofs.History.{Log, IsHistory, rank}
 use Rattle.dsm_flat.proofs.Legal.{Legal, rank_raises, sync_legal}
-use Rattle.dsm_flat.proofs.Flatness.{latest, sourced, flat, final_value}
+use Rattle.dsm_flat.proofs.LogAccesses.{accesses_of, are_accesses}
+use Rattle.dsm_flat.proofs.WordLaw.{word_is_flat}
 use Rattle.dsm_core.specs.Setups.{Setup, lay_in, initial}
 use Rattle.dsm_core.specs.Clusters.{Cluster, Event, start, exactly, after_all_loose, reached}
 use Rattle.dsm_core.specs.Outcomes.{Ran, ran_of, master}
@@ -50,7 +52,7 @@ module _ (s : Setup) (one : s.nodes ≡ 1) (P : ℕ) (events : List Event) (lega
   told = flat_log s one events
 
   -- the word of each address at its home is that of the log
-  page_is : (w : ℕ) → w < s.program.shape.pages * s.program.shape.words → slice_index (ran_of s end).pages w ≡ latest (init w) w log
+  page_is : (w : ℕ) → w < s.program.shape.pages * s.program.shape.words → slice_index (ran_of s end).pages w ≡ latest (init w) (accesses_of w log)
   page_is w below =
       let at : 0 + w ≡ w = omega arith in
       let home : w / s.program.shape.words % s.nodes ≡ 0 = ap (λ n. w / s.program.shape.words % n) one ∙ mod-one (w / s.program.shape.words) in
@@ -58,12 +60,16 @@ module _ (s : Setup) (one : s.nodes ≡ 1) (P : ℕ) (events : List Event) (lega
       ∙ ap (λ n. word (lay_in s) end.words (Frame n (w / s.program.shape.words) (w % s.program.shape.words))) home
       ∙ told.held w below
 
+  -- the law for one word, at the accesses that the log has to it
+  law : (w : ℕ) → Sourced ts (init w) w × (Ordered ts w → Flat ts (init w) w) × (Ordered ts w → Final ts (init w) w (latest (init w) (accesses_of w log)))
+  law w = word_is_flat ts (rank log) (init w) w (accesses_of w log) raises (are_accesses w log ts history) (told.in_order w)
+
   pub flat_where_legal : IsFlatWhereOrdered s P (ran_of s (reached s events))
   flat_where_legal =
       subst (λ c. IsFlatWhereOrdered s P (ran_of s c)) (sym (reached_is_loose s events))
       (record {
         synchronised = sync_legal P log ts history legal;
-        sourced = λ w. sourced init log ts history raises told.in_order w;
-        flat = λ w ord. flat init log ts history raises told.in_order w ord;
-        last = λ w below ord. subst (λ v. Final ts (init w) w v) (sym (page_is w below)) (final_value init log ts history raises told.in_order w ord);
+        sourced = λ w. (law w).0;
+        flat = λ w ord. (law w).1 ord;
+        last = λ w below ord. subst (λ v. Final ts (init w) w v) (sym (page_is w below)) ((law w).2 ord);
       })

@@ -1,11 +1,11 @@
 -- What a state leaves, machine by machine.
 use Rattle.std.proofs.Common.{◌≡◌, ℕ, Bool, ◌+◌, ◌*◌, ◌/◌, ◌%◌, ◌^◌, List, [], ◌∷◌, ◌++◌, Some, map, refl, sym, ap, ◌∙◌, arith}
-use Rattle.std.specs.Prelude.{◌↔◌, slice_index, slice_get, sum_by, is_some, IsTrue, All}
+use Rattle.std.specs.Prelude.{◌↔◌, slice_index, slice_get, is_some, IsTrue, All}
 use Rattle.std.specs.List.{range_with_len, list_all}
 use Rattle.std.proofs.lemmas.List.{map_push}
 use Rattle.std.proofs.lemmas.List.FromFn.{map-range_with_len_more}
 use Rattle.std.proofs.lemmas.Option.{slice_get-map}
-use Rattle.std.proofs.lemmas.List.Sums.{sum_by-cons, AllPass-from_list_all, list_all-from_AllPass}
+use Rattle.std.proofs.lemmas.List.Sums.{sum_by_push, AllPass-from_list_all, list_all-from_AllPass}
 use Rattle.std.proofs.lemmas.List.Folds.{list_all-map}
 use Rattle.dsm_isa.specs.declared.instr.Instr.{Instr}
 use Rattle.dsm_words.specs.declared.item.Item.TheVariants.{Frame}
@@ -13,12 +13,12 @@ use Rattle.dsm_words.specs.Place.{Lay, place}
 use Rattle.dsm_words.specs.Words.{word}
 use Rattle.dsm_machine.specs.declared.machine.Machine.{Machine}
 use Rattle.dsm_machine.specs.declared.counts.Counts.{Counts}
-use Rattle.dsm_machine.specs.Machines.{who, own_of, seen, processor_in}
-use Rattle.dsm_machine.specs.Processors.{ending}
+use Rattle.dsm_machine.specs.Own.{added}
+use Rattle.dsm_machine.specs.Machines.{processor_in}
+use Rattle.dsm_machine.specs.Processors.{Processor, ending}
 use Rattle.dsm_machine.specs.Jobs.{Job, Make, Again, Mark, Ask, Begin, Ended, end_of, has_ended}
-use Rattle.dsm_machine.proofs.Settling.{same_own, same_end}
 use Rattle.dsm_core.specs.Setups.{Setup, lay_in, addresses}
-use Rattle.dsm_core.specs.Outcomes.{master, total_counts}
+use Rattle.dsm_core.specs.Outcomes.{master, total_of, total_counts}
 use Rattle.dsm_core.proofs.Lists.{slice_get-map-range_with_len}
 
 -- the word of address w at its home
@@ -29,45 +29,26 @@ master_word l ws w = slice_index ws (place l (Frame (w / l.words % l.nodes) (w /
 abbrev pub master_words : Lay → List ℕ → ℕ → List ℕ
 master_words l ws n = map (master_word l ws) (range_with_len 0 n)
 
--- what a machine holds, and its end, are the same with any code
-pub own_in : (code : List Instr) (m : Machine) → (processor_in m code).own ≡ own_of m
-own_in code m = same_own (who m) (own_of m) code (seen m).todo
+-- a count of one processor more is added to that of all before it
+total_more : (count : Counts → ℕ) (ps : List Processor) (p : Processor) → (total_of count ps + count p.own.counts) % 2 ^ 64 ≡ total_of count (ps ++ p ∷ [])
+total_more count ps p = omega (arith, sum_by_push (λ m. count m.own.counts) ps p)
 
-pub ending_in : (code : List Instr) (m : Machine) → ending (processor_in m code) ≡ ending (seen m)
-ending_in code m = same_end (who m) (own_of m) code (seen m).todo
-
--- so are the sums of all counts
-same_sum : (count : Counts → ℕ) (code : List Instr) (ms : List Machine) → sum_by (λ m. count m.own.counts) (map seen ms) ≡ sum_by (λ m. count m.own.counts) (map (λ m. processor_in m code) ms)
-same_sum count code [] = refl
-same_sum count code (m ∷ ms) =
-    sum_by-cons (λ k. count k.own.counts) (seen m) (map seen ms)
-    ∙ (λ i. count (sym (own_in code m) i).counts + same_sum count code ms i)
-    ∙ sym (sum_by-cons (λ k. count k.own.counts) (processor_in m code) (map (λ k. processor_in k code) ms))
-
-pub same_counts : (code : List Instr) (ms : List Machine) → total_counts (map seen ms) ≡ total_counts (map (λ m. processor_in m code) ms)
-same_counts code ms = λ i. record {
-  read_faults = same_sum (λ k. k.read_faults) code ms i % 2 ^ 64;
-  write_faults = same_sum (λ k. k.write_faults) code ms i % 2 ^ 64;
-  overwrites = same_sum (λ k. k.overwrites) code ms i % 2 ^ 64;
-  merges = same_sum (λ k. k.merges) code ms i % 2 ^ 64;
-  twins = same_sum (λ k. k.twins) code ms i % 2 ^ 64;
-  flushes = same_sum (λ k. k.flushes) code ms i % 2 ^ 64;
-  early = same_sum (λ k. k.early) code ms i % 2 ^ 64;
-  notices = same_sum (λ k. k.notices) code ms i % 2 ^ 64;
-  unmaps = same_sum (λ k. k.unmaps) code ms i % 2 ^ 64;
-  enters = same_sum (λ k. k.enters) code ms i % 2 ^ 64;
-  breaks = same_sum (λ k. k.breaks) code ms i % 2 ^ 64;
-  unready = same_sum (λ k. k.unready) code ms i % 2 ^ 64;
+-- and so are all its counts
+pub counts_more : (ps : List Processor) (p : Processor) → added (total_counts ps) p.own.counts ≡ total_counts (ps ++ p ∷ [])
+counts_more ps p = λ i. record {
+  read_faults = total_more (λ k. k.read_faults) ps p i;
+  write_faults = total_more (λ k. k.write_faults) ps p i;
+  overwrites = total_more (λ k. k.overwrites) ps p i;
+  merges = total_more (λ k. k.merges) ps p i;
+  twins = total_more (λ k. k.twins) ps p i;
+  flushes = total_more (λ k. k.flushes) ps p i;
+  early = total_more (λ k. k.early) ps p i;
+  notices = total_more (λ k. k.notices) ps p i;
+  unmaps = total_more (λ k. k.unmaps) ps p i;
+  enters = total_more (λ k. k.enters) ps p i;
+  breaks = total_more (λ k. k.breaks) ps p i;
+  unready = total_more (λ k. k.unready) ps p i;
 }
-
--- the traces and the ends, as lists
-pub same_traces : (code : List Instr) (ms : List Machine) → map (λ m. (seen m).own.trace) ms ≡ map (λ m. m.own.trace) (map (λ m. processor_in m code) ms)
-same_traces code [] = refl
-same_traces code (m ∷ ms) = λ i. (sym (own_in code m) i).trace ∷ same_traces code ms i
-
-pub same_ends : (code : List Instr) (ms : List Machine) → map (λ m. ending (seen m)) ms ≡ map ending (map (λ m. processor_in m code) ms)
-same_ends code [] = refl
-same_ends code (m ∷ ms) = λ i. sym (ending_in code m) i ∷ same_ends code ms i
 
 -- the words of memory, as the definition has them
 pub pages_are : (s : Setup) (ws : List ℕ) (l : Lay) → l ≡ lay_in s → master_words l ws (l.pages * l.words) ≡ map (λ w. word (lay_in s) ws (master s w)) (addresses s)
@@ -94,11 +75,10 @@ some_ended (Mark n j) = refl
 some_ended (Ask f) = refl
 some_ended (Begin h) = refl
 
-pub all_ended : (code : List Instr) (ms : List Machine) (r : Bool) → r ≡ list_all (λ m. is_some (ending (seen m))) ms → IsTrue r ↔ All (λ m. IsTrue (has_ended m.todo)) (map (λ m. processor_in m code) ms)
+pub all_ended : (code : List Instr) (ms : List Machine) (r : Bool) → r ≡ list_all (λ m. is_some (ending (processor_in m code))) ms → IsTrue r ↔ All (λ m. IsTrue (has_ended m.todo)) (map (λ m. processor_in m code) ms)
 all_ended code ms r is =
     let same : r ≡ list_all (λ m. has_ended m.todo) (map (λ m. processor_in m code) ms) =
     is
-    ∙ (λ i. list_all (λ m. is_some (sym (ending_in code m) i)) ms)
     ∙ (λ i. list_all (λ m. some_ended (processor_in m code).todo i) ms)
     ∙ sym (list_all-map (λ m. has_ended m.todo) (λ m. processor_in m code) ms) in
     (λ yes. AllPass-from_list_all (λ m. has_ended m.todo) (map (λ m. processor_in m code) ms) (sym same ∙ yes), λ all. same ∙ list_all-from_AllPass (λ m. has_ended m.todo) (map (λ m. processor_in m code) ms) all)

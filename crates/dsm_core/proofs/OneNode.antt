@@ -14,8 +14,9 @@ use Rattle.dsm_words.specs.Script.{Act, Get, Put, Swap, Change, Add, Or, item_of
 use Rattle.dsm_words.specs.Words.{word, done, reply}
 use Rattle.dsm_words.proofs.PlaceLaws.{offset_below}
 use Rattle.dsm_words.proofs.WordLaws.{length-done, reply_is, word_same, word_other}
-use Rattle.dsm_flat.proofs.History.{Log}
-use Rattle.dsm_flat.proofs.Flatness.{latest, InOrder}
+use Rattle.dsm_flat.specs.WordLaw.{latest, InOrder}
+use Rattle.dsm_flat.proofs.History.{Deed, Log}
+use Rattle.dsm_flat.proofs.LogAccesses.{accesses_of, latest_step, in_order_step}
 use Rattle.dsm_machine.specs.Own.{Who}
 use Rattle.dsm_machine.specs.Processors.{Processor, Given, new_processor, after_given}
 use Rattle.dsm_core.specs.Setups.{Setup, lay_in, who_at, initial}
@@ -94,51 +95,79 @@ module _ (s : Setup) (one : s.nodes ≡ 1) where
       frame_address (Frame n g i) = s.program.shape.words * g + i
       frame_address it = 0
 
+  -- the value of the latest store to an address
+  abbrev pub stored : ℕ → Log → ℕ
+  stored w log = latest (first w) (accesses_of w log)
+
   -- each frame's word has the latest store to its address
   abbrev pub Held : List ℕ → Log → Type 0
-  Held ws log = (w : ℕ) → w < size → word (lay_in s) ws (cell w) ≡ latest (first w) w log
+  Held ws log = (w : ℕ) → w < size → word (lay_in s) ws (cell w) ≡ stored w log
+
+  -- the accesses to each address are in order
+  abbrev pub AllInOrder : Log → Type 0
+  AllInOrder log = (w : ℕ) → InOrder (first w) (accesses_of w log)
 
   -- behind an operation that leaves these entries the words and the log agree, and each load was in order
   abbrev IsFlatStep : ℕ → List ℕ → Act → List Entry → Log → Type 0
-  IsFlatStep p ws a es log = Held (done (lay_in s) ws a) (onto p es log) × InOrder first (onto p es log)
+  IsFlatStep p ws a es log = Held (done (lay_in s) ws a) (onto p es log) × AllInOrder (onto p es log)
 
-  aside_held : (ws : List ℕ) (a : Act) (log : Log) → IsAside (item_of a) → Held ws log → (w : ℕ) → w < size → word (lay_in s) (done (lay_in s) ws a) (cell w) ≡ latest (first w) w log
+  aside_held : (ws : List ℕ) (a : Act) (log : Log) → IsAside (item_of a) → Held ws log → (w : ℕ) → w < size → word (lay_in s) (done (lay_in s) ws a) (cell w) ≡ stored w log
   aside_held ws a log aside held w below =
       word_apart (lay_in s) ws a (cell w) (frame_apart (lay_in s) 0 _ _ (item_of a) (cell_within w below) aside) ∙ held w below
 
-  load_step : (p : ℕ) (ws : List ℕ) (a : Act) (w v : ℕ) (log : Log) → w < size → a ≡ Get (cell w) → v ≡ reply (lay_in s) ws a → Held ws log → InOrder first log → IsFlatStep p ws a (Load w v ∷ []) log
+  load_step : (p : ℕ) (ws : List ℕ) (a : Act) (w v : ℕ) (log : Log) → w < size → a ≡ Get (cell w) → v ≡ reply (lay_in s) ws a → Held ws log → AllInOrder log → IsFlatStep p ws a (Load w v ∷ []) log
   load_step p ws a w v log below is got held order = (
-    λ u b. ap (λ x. word (lay_in s) (done (lay_in s) ws x) (cell u)) is ∙ word_loaded (lay_in s) ws (cell w) (cell u) ∙ held u b,
-    (got ∙ ap (reply (lay_in s) ws) is ∙ reply_is (lay_in s) ws (Get (cell w)) ∙ held w below, order),
+    λ u b.
+        ap (λ x. word (lay_in s) (done (lay_in s) ws x) (cell u)) is
+        ∙ word_loaded (lay_in s) ws (cell w) (cell u)
+        ∙ held u b
+        ∙ sym (latest_step (first u) u d log),
+    λ u. in_order_step (first u) u d log (gets u) (order u),
   )
-
-  store_step : (p : ℕ) (ws : List ℕ) (a : Act) (w v : ℕ) (log : Log) → w < size → a ≡ Put (cell w) v → length ws ≡ total (lay_in s) → Held ws log → InOrder first log → IsFlatStep p ws a (Store w v ∷ []) log
-  store_step p ws a w v log below is room held order = (stored, (tt, order))
     where
-      stored : (u : ℕ) → u < size → word (lay_in s) (done (lay_in s) ws a) (cell u) ≡ (if w == u then v else latest (first u) u log)
-      stored u b = ap (λ x. word (lay_in s) (done (lay_in s) ws x) (cell u)) is ∙ go (cases_eq w u)
+      d : Deed
+      d = record { p = p; e = Load w v }
+
+      gets : (u x : ℕ) → Load w v ≡ Load u x → x ≡ stored u log
+      gets u x e =
+          let seen : v ≡ stored w log = got ∙ ap (reply (lay_in s) ws) is ∙ reply_is (lay_in s) ws (Get (cell w)) ∙ held w below in
+          let same : w ≡ u = cc e in
+          let value : x ≡ v = cc e in
+          value ∙ seen ∙ ap (λ y. stored y log) same
+
+  store_step : (p : ℕ) (ws : List ℕ) (a : Act) (w v : ℕ) (log : Log) → w < size → a ≡ Put (cell w) v → length ws ≡ total (lay_in s) → Held ws log → AllInOrder log → IsFlatStep p ws a (Store w v ∷ []) log
+  store_step p ws a w v log below is room held order = (
+    λ u b. put u b ∙ sym (latest_step (first u) u d log),
+    λ u. in_order_step (first u) u d log (λ x e. absurd (cc e)) (order u),
+  )
+    where
+      d : Deed
+      d = record { p = p; e = Store w v }
+
+      put : (u : ℕ) → u < size → word (lay_in s) (done (lay_in s) ws a) (cell u) ≡ (if w == u then v else stored u log)
+      put u b = ap (λ x. word (lay_in s) (done (lay_in s) ws x) (cell u)) is ∙ go (cases_eq w u)
         where
-          go : (w ≡ u) ⊎ (w ≡ u → ⊥) → word (lay_in s) (done (lay_in s) ws (Put (cell w) v)) (cell u) ≡ (if w == u then v else latest (first u) u log)
+          go : (w ≡ u) ⊎ (w ≡ u → ⊥) → word (lay_in s) (done (lay_in s) ws (Put (cell w) v)) (cell u) ≡ (if w == u then v else stored u log)
           go (inl same) =
               ap (λ x. word (lay_in s) (done (lay_in s) ws (Put (cell w) v)) (cell x)) (sym same)
               ∙ word_same (lay_in s) ws (Put (cell w) v) room (cell_within w below)
-              ∙ ap (λ t. if t then v else latest (first u) u log) (sym (eq-eqb w u same))
+              ∙ ap (λ t. if t then v else stored u log) (sym (eq-eqb w u same))
           go (inr other) =
               word_other (lay_in s) ws (Put (cell w) v) (cell u) (cell_within w below) (cell_within u b) (cell_other w u other)
               ∙ held u b
-              ∙ ap (λ t. if t then v else latest (first u) u log) (sym (ne_eqb w u other))
+              ∙ ap (λ t. if t then v else stored u log) (sym (ne_eqb w u other))
 
   -- what an operation and its entries do to the words and the log
   flat_step : (p : ℕ) (ws : List ℕ) (a : Act) (x : ℕ) (es : List Entry) (log : Log) → p / s.procs ≡ 0 → x ≡ reply (lay_in s) ws a → length ws ≡ total (lay_in s)
-      → Accesses (who_at s p) tt a x es tt → Held ws log → InOrder first log → IsFlatStep p ws a es log
+      → Accesses (who_at s p) tt a x es tt → Held ws log → AllInOrder log → IsFlatStep p ws a es log
   flat_step p ws a x [] log own got room allowed held order = (aside_held ws a log allowed held, order)
   flat_step p ws a x (Load w v ∷ []) log own got room allowed held order =
       load_step p ws a w v log allowed.0 (allowed.1 ∙ ap (λ n. Get (Frame n (w / s.program.shape.words) (w % s.program.shape.words))) own) (allowed.2 ∙ got) held order
   flat_step p ws a x (Store w v ∷ []) log own got room allowed held order =
       store_step p ws a w v log allowed.0 (allowed.1 ∙ ap (λ n. Put (Frame n (w / s.program.shape.words) (w % s.program.shape.words)) v) own) room held order
-  flat_step p ws a x (Signal o j ∷ []) log own got room allowed held order = (aside_held ws a log allowed held, (tt, order))
-  flat_step p ws a x (Pass o c ∷ []) log own got room allowed held order = (aside_held ws a log allowed held, (tt, order))
-  flat_step p ws a x (Out v ∷ []) log own got room allowed held order = (aside_held ws a log allowed held, (tt, order))
+  flat_step p ws a x (Signal o j ∷ []) log own got room allowed held order = (aside_held ws a log allowed held, order)
+  flat_step p ws a x (Pass o c ∷ []) log own got room allowed held order = (aside_held ws a log allowed held, order)
+  flat_step p ws a x (Out v ∷ []) log own got room allowed held order = (aside_held ws a log allowed held, order)
   flat_step p ws a x (e ∷ f ∷ es) log own got room allowed held order = absurd allowed
 
   -- a state and its log: each processor stands, and memory is as the log says
@@ -147,7 +176,7 @@ module _ (s : Setup) (one : s.nodes ≡ 1) where
     pub count : length c.processors ≡ s.nodes * s.procs
     pub stand : (p : ℕ) (m : Processor) → slice_get c.processors p ≡ Some m → StandsAt (Accesses (who_at s p)) AnyHead tt m
     pub held : Held c.words log
-    pub in_order : InOrder first log
+    pub in_order : AllInOrder log
 
   -- one event of processor p, which stands
   flat_moved : (c : Cluster) (e : Event) (log : Log) (m : Processor) (es : List Entry) → IsFlatLog c log → slice_get c.processors e.p ≡ Some m → stays e.starved m.todo ≡ false
@@ -204,4 +233,4 @@ module _ (s : Setup) (one : s.nodes ≡ 1) where
   pub flat_log : (events : List Event) → IsFlatLog (after_all_loose s (start s) (map exactly events)) (log_of s (map exactly events))
   flat_log events =
       every_exact_log s IsFlatLog flat_event events (start s) []
-      (record { room = length-words s; count = length-processors s; stand = start_stand; held = start_held; in_order = tt })
+      (record { room = length-words s; count = length-processors s; stand = start_stand; held = start_held; in_order = λ w. tt })

@@ -2,7 +2,8 @@ pub mod OrderLaws
 pub mod Objects
 pub mod History
 pub mod Legal
-pub mod Flatness
+pub mod WordLaw
+pub mod LogAccesses
 pub mod Lists
 pub mod Rows
 pub mod Searching

@@ -2,6 +2,7 @@ pub mod Order
 pub mod Flat
 pub mod Sync
 pub mod Laws
+pub mod WordLaw
 pub mod Judge
 pub mod Links
 pub mod Rows

@@ -1,5 +1,6 @@
 // Laws of the order, whatever the traces are.
 ghost use Rattle.dsm_flat.specs.Laws.{IsTransitive, RankExcludesCircles, LastIsDetermined, FinalIsDetermined, OneTrace, SignalThenPass};
+ghost use Rattle.dsm_flat.specs.WordLaw.{WordIsFlat, WordIsHandedOver};
 
 /// The laws of the order. It does nothing: its clauses are what it is for.
 pub fn order_laws()
@@ -15,4 +16,13 @@ pub fn order_laws()
     ensures one_trace { OneTrace }
     // From one processor to another, before leads by a signal and then a pass.
     ensures carried { SignalThenPass }
+{}
+
+/// The law for one word. It does nothing: its clauses are what it is for.
+pub fn word_law()
+    // Where each load of the word has the value of the latest store before it, in an order that every edge raises, each
+    // load has a source, and an ordered word is flat, with the value of the latest store of all as its final value.
+    ensures flat { WordIsFlat }
+    // From a store to an ordered word to a later access by another processor lead a signal and then a pass.
+    ensures handed { WordIsHandedOver }
 {}

@@ -1,12 +1,12 @@
 -- Where a head's job begins.
-use Rattle.std.proofs.Common.{◌≡◌, ℕ, List, None, refl, ap}
+use Rattle.std.proofs.Common.{◌≡◌, ℕ, List, refl, ap}
 use Rattle.dsm_isa.specs.declared.instr.Instr.{Instr}
 use Rattle.dsm_local.specs.declared.action.Action.{Action}
 use Rattle.dsm_local.specs.declared.action.Action.TheVariants.{Set, Jump, LoadWord, StoreWord, Print, TakeLock, GiveLock, Meet, RaiseFlag, WaitFlag, Trap, Spend, Arrive}
 use Rattle.dsm_local.specs.Readers.{next_action}
 use Rattle.dsm_machine.specs.declared.head.Head.TheVariants.{Instruction, Locking, Looking}
 use Rattle.dsm_machine.specs.Own.{Own, Who, setting_of}
-use Rattle.dsm_machine.specs.Jobs.{Job, Make, Again, Mark, Ask, Begin, Ended, job_after, end_of}
+use Rattle.dsm_machine.specs.Jobs.{Job, Make, Again, Mark, Ask, Begin, Ended, job_after}
 use Rattle.dsm_machine.specs.Steps.{action_job}
 use Rattle.dsm_machine.specs.Processors.{settled, begun, going_on, after_answer}
 
@@ -41,29 +41,3 @@ module _ (u : Who) (o : Own) where
   same_own code (Mark n j) = refl
   same_own code (Ask f) = refl
   same_own code (Ended e) = refl
-
-  -- and has ended where it had
-  action_runs : (a : Action) → end_of (settled o (action_job u o a)).todo ≡ None
-  action_runs (Set d v) = refl
-  action_runs (Jump to) = refl
-  action_runs (LoadWord d w) = refl
-  action_runs (StoreWord w v) = refl
-  action_runs (Print v) = refl
-  action_runs (TakeLock l) = refl
-  action_runs (GiveLock l k) = refl
-  action_runs (Meet b) = refl
-  action_runs (RaiseFlag f) = refl
-  action_runs (WaitFlag f need) = refl
-  action_runs (Trap kind) = refl
-  action_runs Spend = refl
-  action_runs Arrive = refl
-
-  pub same_end : (code : List Instr) (j : Job) → end_of (begun u code o j).todo ≡ end_of j
-  same_end code (Begin Instruction) = action_runs (next_action code (setting_of u) o.reader)
-  same_end code (Begin (Locking l)) = refl
-  same_end code (Begin (Looking of need)) = refl
-  same_end code (Make a k) = refl
-  same_end code (Again a wanted j) = refl
-  same_end code (Mark n j) = refl
-  same_end code (Ask f) = refl
-  same_end code (Ended e) = refl

@@ -168,7 +168,8 @@ impl Machine {
 
     /// How often each thing happened. It takes no memory.
     pub fn counts(&self) -> Counts
-        ensures { result ≡ (seen self.now).own.counts }
+        ensures counts { result ≡ (seen self.now).own.counts }
+        ensures begun { (code : List instruction) → result ≡ (processor_in self.now code).own.counts }
     {
         self.counts
     }
@@ -190,7 +191,8 @@ impl Machine {
 
     /// The trace of a machine that is no longer wanted. It takes no memory.
     pub fn into_trace(self) -> Trace
-        ensures { result.list ≡ (seen self).own.trace }
+        ensures trace { result.list ≡ (seen self).own.trace }
+        ensures begun { (code : List instruction) → result.list ≡ (processor_in self code).own.trace }
     {
         self.trace
     }

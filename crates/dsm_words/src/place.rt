@@ -91,7 +91,12 @@ impl Layout {
         ensures place { result ≡ place (lay_of self.now) item }
         ensures within { result < total (lay_of self.now) }
     {
-        self.start(item.block()) + u64::from(self.offset(item))
+        match item {
+            // These two are asked for at every step of a processor.
+            Item::Stop => 0,
+            Item::Frame { .. } => 1 + u64::from(self.offset(item)),
+            _ => self.start(item.block()) + u64::from(self.offset(item)),
+        }
     }
 
     /// How many words there are, at most 1,067,938.

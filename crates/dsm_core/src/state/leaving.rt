@@ -2,7 +2,7 @@
 ghost use Rattle.std.specs.Prelude.{◌≡◌, List, IfOk, map};
 ghost use Rattle.dsm_isa.specs.declared.instr.Instr.{Instr};
 ghost use Rattle.dsm_isa.specs.ProgramText.{ProgramText};
-ghost use Rattle.dsm_machine.specs.Machines.{processor_in, seen};
+ghost use Rattle.dsm_machine.specs.Machines.{processor_in};
 
 use super::State;
 use crate::homes::master;
@@ -15,6 +15,7 @@ use dsm_machine::machine::Machine;
 use std::alloc::Global;
 
 impl State {
+    ghost use Rattle.dsm_machine.specs.Processors.{ending};
     ghost use Rattle.dsm_core.specs.Clusters.{IsReached};
     ghost use Rattle.dsm_core.specs.Outcomes.{ran_of, total_counts};
     ghost use Rattle.dsm_core.specs.Promises.{Promises};
@@ -53,7 +54,7 @@ impl State {
 
     /// The end of each processor.
     fn ends(&self, alloc: Global) -> Result<Vec<Option<End>>, NoMemory>
-        ensures { IfOk result (λ ends. (program : ProgramText) → ends.items ≡ (ran_of (setup_in self.now program) (cluster_in self.now program.code)).ends) }
+        ensures { IfOk result (λ ends. (code : List Instr) → ends.items ≡ map ending (cluster_in self.now code).processors) }
     {
         let mut ends = Vec::with_capacity(alloc, self.machines.len())?;
         for machine in self.machines.iter() {

@@ -1,7 +1,8 @@
-use Rattle.std.proofs.Common.{◌≡◌, map, take}
-use Rattle.dsm_machine.specs.Machines.{seen}
+use Rattle.std.proofs.Common.{◌≡◌, List, map, take}
+use Rattle.dsm_isa.specs.declared.instr.Instr.{Instr}
+use Rattle.dsm_machine.specs.Machines.{processor_in}
 use Rattle.dsm_machine.specs.Processors.{ending}
 use Rattle.dsm_core.proofs.state.State.ends.Given as goal
 
 abbrev pub invariant-loop-machine : goal.invariant-loop-machine
-invariant-loop-machine l = l.ends.items ≡ map (λ m. ending (seen m)) (take l.machine-index l.self.machines.items)
+invariant-loop-machine l = (code : List Instr) → l.ends.items ≡ map ending (map (λ m. processor_in m code) (take l.machine-index l.self.machines.items))
