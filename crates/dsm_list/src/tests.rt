@@ -54,12 +54,18 @@ fn jumps_are_listed_with_labels(rt: HostRuntime) -> Result<(), Fail> {
     Ok(())
 }
 
-#[test]
-fn operands_are_listed_in_order(rt: HostRuntime) -> Result<(), Fail> {
-    let alloc = rt.alloc();
+// The registers r1, r2 and r10.
+fn three() -> Result<(Reg, Reg, Reg), Fail> {
     let d = Reg::new(1).ok_or("r1")?;
     let a = Reg::new(2).ok_or("r2")?;
     let b = Reg::new(10).ok_or("r10")?;
+    Ok((d, a, b))
+}
+
+#[test]
+fn registers_are_listed_in_order(rt: HostRuntime) -> Result<(), Fail> {
+    let alloc = rt.alloc();
+    let (d, a, b) = three()?;
     let registers = [
         Instr::Li { d, k: 9 },
         Instr::Mov { d, a },
@@ -87,6 +93,13 @@ fn operands_are_listed_in_order(rt: HostRuntime) -> Result<(), Fail> {
         )?,
         true
     );
+    Ok(())
+}
+
+#[test]
+fn numbers_and_objects_are_listed_in_order(rt: HostRuntime) -> Result<(), Fail> {
+    let alloc = rt.alloc();
+    let (d, a, b) = three()?;
     let others = [
         Instr::Addi { d, a, k: 8 },
         Instr::Subi { d, a, k: 8 },
