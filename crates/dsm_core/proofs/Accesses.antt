@@ -21,11 +21,10 @@ use Rattle.dsm_local.proofs.Inside.{IsInside-next_action}
 use Rattle.dsm_machine.specs.declared.head.Head.{Head}
 use Rattle.dsm_machine.specs.declared.head.Head.TheVariants.{Instruction, Locking, Looking}
 use Rattle.dsm_machine.specs.Own.{Own, Who, setting_of, looked_again}
-use Rattle.dsm_machine.specs.Jobs.{first_act, Job, Make, Begin, Ended, call}
+use Rattle.dsm_machine.specs.Jobs.{Job, Make, Begin, Ended, call}
 use Rattle.dsm_machine.specs.Steps.{address_item, is_last, heed_job, stop_job, unready_job, tried_job, looked_job, look_job, action_job, head_job}
-use Rattle.dsm_machine.specs.Processors.{Given, settled, wanting, after_given, processor_of}
-use Rattle.dsm_core.specs.Clusters.{stays}
-use Rattle.dsm_core.proofs.Typing.{Keeps, Stands, StandsAt, Step, IsRule, event_step, made_stands}
+use Rattle.dsm_machine.specs.Processors.{settled}
+use Rattle.dsm_core.proofs.Typing.{Keeps, Stands, StandsAt, IsRule}
 
 -- an item that is no frame's word
 abbrev pub IsAside : Item → Type 0
@@ -113,11 +112,3 @@ module _ (u : Who) (code : List Instr) where
 -- every processor accesses memory so, whatever its code
 pub accesses : (u : Who) (code : List Instr) → IsRule (Accesses u) AnyHead u code
 accesses u code = record { heads = λ i o h comes. head_stands u code o h; starved = λ i o y. (tt, tt) }
-
--- Whatever a processor was given, its next event, where there is one, appends at most one entry. It is a load or store exactly where the
--- operation is one on a frame's word: of that address, and with the answer or the value of the operation.
-pub every_access : (u : Who) (code : List Instr) (gs : List Given) (g : Given) → stays g.starved (processor_of u code gs).todo ≡ false
-    → (let m = processor_of u code gs in Step (Accesses u) AnyHead tt (first_act (wanting u g.starved m).todo) g.got m.own.trace (after_given u code m g))
-every_access u code gs g goes =
-    let h = made_stands (Accesses u) AnyHead u code (accesses u code) tt tt gs in
-    event_step (Accesses u) AnyHead u code (accesses u code) h.0 (processor_of u code gs) g h.1 goes

@@ -6,11 +6,10 @@ use Rattle.dsm_words.specs.declared.item.Item.TheVariants.{Frame}
 use Rattle.dsm_words.specs.Words.{word}
 use Rattle.dsm_flat.specs.Order.{Traces}
 use Rattle.dsm_flat.specs.Flat.{Ordered, Flat, Sourced, Final}
-use Rattle.dsm_flat.specs.Sync.{SyncLegal}
 use Rattle.dsm_flat.specs.Laws.{Raises}
 use Rattle.dsm_flat.specs.WordLaw.{latest}
 use Rattle.dsm_flat.proofs.History.{Log, IsHistory, rank}
-use Rattle.dsm_flat.proofs.Legal.{Legal, rank_raises, sync_legal}
+use Rattle.dsm_flat.proofs.Legal.{Legal, rank_raises}
 use Rattle.dsm_flat.proofs.LogAccesses.{accesses_of, are_accesses}
 use Rattle.dsm_flat.proofs.WordLaw.{word_is_flat}
 use Rattle.dsm_core.specs.Setups.{Setup, lay_in, initial}
@@ -21,9 +20,8 @@ use Rattle.dsm_core.proofs.Logs.{log_of}
 use Rattle.dsm_core.proofs.Histories.{traces_of, is_history}
 use Rattle.dsm_core.proofs.OneNode.{IsFlatLog, flat_log}
 
--- the synchronisation of P processors is legal, each load has a source, and each ordered word is flat and has its last store
-pub record IsFlatWhereOrdered (s : Setup) (P : ℕ) (ran : Ran) : Type 0 where
-  pub synchronised : SyncLegal ran.traces P
+-- each load has a source, and each ordered word is flat and has its last store
+pub record IsFlatWhereOrdered (s : Setup) (ran : Ran) : Type 0 where
   pub sourced : (w : ℕ) → Sourced ran.traces (initial s.program.init w) w
   pub flat : (w : ℕ) → Ordered ran.traces w → Flat ran.traces (initial s.program.init w) w
   pub last : (w : ℕ) → w < s.program.shape.pages * s.program.shape.words → Ordered ran.traces w → Final ran.traces (initial s.program.init w) w (slice_index ran.pages w)
@@ -64,11 +62,10 @@ module _ (s : Setup) (one : s.nodes ≡ 1) (P : ℕ) (events : List Event) (lega
   law : (w : ℕ) → Sourced ts (init w) w × (Ordered ts w → Flat ts (init w) w) × (Ordered ts w → Final ts (init w) w (latest (init w) (accesses_of w log)))
   law w = word_is_flat ts (rank log) (init w) w (accesses_of w log) raises (are_accesses w log ts history) (told.in_order w)
 
-  pub flat_where_legal : IsFlatWhereOrdered s P (ran_of s (reached s events))
+  pub flat_where_legal : IsFlatWhereOrdered s (ran_of s (reached s events))
   flat_where_legal =
-      subst (λ c. IsFlatWhereOrdered s P (ran_of s c)) (sym (reached_is_loose s events))
+      subst (λ c. IsFlatWhereOrdered s (ran_of s c)) (sym (reached_is_loose s events))
       (record {
-        synchronised = sync_legal P log ts history legal;
         sourced = λ w. (law w).0;
         flat = λ w ord. (law w).1 ord;
         last = λ w below ord. subst (λ v. Final ts (init w) w v) (sym (page_is w below)) ((law w).2 ord);

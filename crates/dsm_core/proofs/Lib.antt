@@ -1,6 +1,5 @@
 pub mod Accesses
 pub mod Agreeing
-pub mod Calls
 pub mod Counting
 pub mod Events
 pub mod FirstWords

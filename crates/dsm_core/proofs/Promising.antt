@@ -1,5 +1,5 @@
 -- Every run keeps what is promised.
-use Rattle.std.proofs.Common.{◌≡◌, ℕ, ◌*◌, ◌<◌, ◌^◌, false, List, [], ◌∷◌, map, zero, suc, Option, Some, refl, sym, ap, ◌∙◌, subst, arith}
+use Rattle.std.proofs.Common.{◌≡◌, ℕ, ◌*◌, ◌<◌, ◌^◌, false, List, [], ◌∷◌, map, length, zero, suc, Option, Some, refl, sym, ap, ◌∙◌, subst, arith}
 use Rattle.std.specs.Prelude.{slice_get}
 use Rattle.dsm_entry.specs.declared.entry.Entry.{Entry}
 use Rattle.dsm_local.specs.declared.end.End.{End}
@@ -9,14 +9,16 @@ use Rattle.dsm_machine.specs.Jobs.{end_of}
 use Rattle.dsm_machine.specs.Laws.{IsLocal}
 use Rattle.dsm_machine.specs.Processors.{Processor, Given, ending, processor_of, IsMade}
 use Rattle.dsm_machine.proofs.Reading.{every_trace_is_local}
+use Rattle.dsm_flat.specs.Flat.{Ordered}
 use Rattle.dsm_flat.specs.Sync.{SyncLegal}
+use Rattle.dsm_flat.proofs.OrderLaws.{Ordered-one}
 use Rattle.dsm_core.specs.Setups.{Setup, IsSetup, who_at}
 use Rattle.dsm_core.specs.Clusters.{Event, exactly, reached}
 use Rattle.dsm_core.specs.Outcomes.{ran_of}
 use Rattle.dsm_core.specs.Stopping.{HasToldAll}
 use Rattle.dsm_core.specs.Promises.{AllLocal, AllTold, IsFlatWord, Promises, EveryRunKeepsThem}
 use Rattle.dsm_core.proofs.Lists.{some_one}
-use Rattle.dsm_core.proofs.Reaching.{reached_is_loose, reached_given}
+use Rattle.dsm_core.proofs.Reaching.{reached_is_loose, reached_given, length-reached}
 use Rattle.dsm_core.proofs.Stops.{every_stopped}
 use Rattle.dsm_core.proofs.Legality.{every_log_legal, every_sync_legal}
 use Rattle.dsm_core.proofs.FlatRuns.{flat_where_legal}
@@ -64,6 +66,15 @@ reached_flat s events setup one w =
     let all = flat_where_legal s one (s.nodes * s.procs) events (every_log_legal s setup (map exactly events)) in
     record { sourced = all.sourced w; flat = all.flat w; last = λ ordered halted below. all.last w below ordered }
 
+-- one processor leaves one trace
+alone_ordered : (ps : List Processor) (w : ℕ) → length ps ≡ 1 → Ordered (map (λ m. m.own.trace) ps) w
+alone_ordered [] w one = absurd (omega (arith, one))
+alone_ordered (m ∷ []) w one = Ordered-one m.own.trace w
+alone_ordered (m ∷ n ∷ ps) w one = absurd (omega (arith, one))
+
+reached_alone : (s : Setup) (events : List Event) → s.nodes * s.procs ≡ 1 → (w : ℕ) → Ordered (ran_of s (reached s events)).traces w
+reached_alone s events one w = alone_ordered (reached s events).processors w ((length-reached s events).1 ∙ one)
+
 pub every_run : EveryRunKeepsThem
 every_run s events ran setup outcome =
     let few : s.nodes * s.procs < 2 ^ 32 = omega (arith, setup.all) in
@@ -73,4 +84,5 @@ every_run s events ran setup outcome =
       told = reached_told s events few;
       legal = reached_legal s events setup;
       flat = λ one. reached_flat s events setup one;
+      alone = λ one. reached_alone s events one;
     })

@@ -1,21 +1,13 @@
 -- What holds of each reached state.
-use Rattle.std.proofs.Common.{◌≡◌, ℕ, ◌+◌, ◌*◌, ◌<◌, List, [], length, map, Some, sym, ap, ◌∙◌, subst, arith}
+use Rattle.std.proofs.Common.{◌≡◌, ℕ, ◌*◌, List, length, map, Some, sym, ap, ◌∙◌, subst}
 use Rattle.std.specs.Prelude.{slice_get}
 use Rattle.dsm_words.specs.Place.{total}
-use Rattle.dsm_machine.specs.Processors.{Processor, Given, new_processor, processor_of}
+use Rattle.dsm_machine.specs.Processors.{Processor, Given, processor_of}
 use Rattle.dsm_core.specs.Setups.{Setup, lay_in, who_at}
 use Rattle.dsm_core.specs.Clusters.{Event, start, exactly, after_all_loose, reached}
-use Rattle.dsm_core.proofs.Lists.{slice_get-map-range_with_len_below}
 use Rattle.dsm_core.proofs.Events.{every_given}
 use Rattle.dsm_core.proofs.Runs.{events_are_loose}
 use Rattle.dsm_core.proofs.Starting.{every_whole}
-
--- at the start each processor was given nothing
-pub start_processor : (s : Setup) (p : ℕ) → p < s.nodes * s.procs → slice_get (start s).processors p ≡ Some (processor_of (who_at s p) s.program.code [])
-unfolding start processor_of
-start_processor s p h =
-    let new : ℕ → Processor = λ q. new_processor (who_at s q) s.program.code in
-    slice_get-map-range_with_len_below new (s.nodes * s.procs) 0 p h ∙ ap (λ q. Some (new q)) (let z : 0 + p ≡ p = omega arith in z)
 
 pub reached_is_loose : (s : Setup) (es : List Event) → reached s es ≡ after_all_loose s (start s) (map exactly es)
 unfolding reached

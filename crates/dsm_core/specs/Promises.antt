@@ -28,12 +28,14 @@ pub record IsFlatWord (s : Setup) (ran : Ran) (w : ℕ) : Type 0 where
   -- and once all processors have halted, its home has its last store
   pub last : Ordered ran.traces w → AllHalted ran.ends → w < s.program.shape.pages * s.program.shape.words → Final ran.traces (initial s.program.init w) w (slice_index ran.pages w)
 
--- each processor does what its program says; synchronisation is legal, and nothing is before itself; on one node each word is flat
+-- each processor does what its program says; synchronisation is legal, and nothing is before itself; on one node each word is flat;
+-- and where a processor is alone, each word is ordered
 pub record Promises (s : Setup) (ran : Ran) : Type 0 where
   pub local : AllLocal s ran
   pub told : AllTold ran
   pub legal : SyncLegal ran.traces (s.nodes * s.procs)
   pub flat : s.nodes ≡ 1 → (w : ℕ) → IsFlatWord s ran w
+  pub alone : s.nodes * s.procs ≡ 1 → (w : ℕ) → Ordered ran.traces w
 
 -- they hold of what any list of events leaves, so at every step of every interleaving
 abbrev pub EveryRunKeepsThem : Type 0

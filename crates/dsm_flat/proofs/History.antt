@@ -1,11 +1,11 @@
 -- The log: the list of all entries in the order in which they were made, newest first, each with its processor.
-use Rattle.std.proofs.Common.{◌≡◌, ◌≢◌, ℕ, zero, suc, ◌<◌, ◌⊎◌, ◌↔◌, List, [], ◌∷◌, ◌++◌, Some, None, length, refl, sym, ap, ◌∙◌, inl, inr, arith, if◌then◌else◌, ◌==◌}
+use Rattle.std.proofs.Common.{◌≡◌, ◌≢◌, ℕ, zero, suc, ◌<◌, ◌⊎◌, ◌↔◌, List, [], ◌∷◌, ◌++◌, Some, length, refl, sym, ap, ◌∙◌, inl, inr, arith, if◌then◌else◌, ◌==◌}
 use Rattle.std.specs.Prelude.{slice_get, ◌&&◌}
 use Rattle.std.proofs.lemmas.Bool.{cases_eq, ne_eqb, eq-eqb, and_from, and_right}
 use Rattle.std.proofs.lemmas.Option.{slice_get_within}
 use Rattle.dsm_entry.specs.declared.entry.Entry.{Entry}
 use Rattle.dsm_entry.specs.declared.entry.Place.{Place}
-use Rattle.dsm_flat.specs.Order.{Traces, found_in, entry_at, Holds}
+use Rattle.dsm_flat.specs.Order.{Traces, Holds}
 
 -- processor p made the entry e
 pub record Deed : Type 0 where
@@ -95,9 +95,6 @@ new_is d log = ap (λ t. slice_get t (length (mine d.p log))) (mine_own d log d.
 pub was_below : (log : Log) (x : Place) (e : Entry) → Was log x e → x.i < length (mine x.p log)
 was_below log x e h = slice_get_within (mine x.p log) x.i e h
 
-pub was_one : (log : Log) (x : Place) (e f : Entry) → Was log x e → Was log x f → e ≡ f
-was_one log x e f h g = cc (h, g)
-
 pub new_place : (d : Deed) (log : Log) (x y : Place) (e f : Entry) → IsNew d log x e → IsNew d log y f → x ≡ y
 new_place d log x y e f a b =
     let p : x.p ≡ y.p = sym a.own ∙ b.own in
@@ -140,80 +137,3 @@ rank_own (d ∷ log) x y e f h g p lt = go (new_or_old d log x e h) (new_or_old 
         let s : length (mine x.p log) ≡ length (mine y.p log) = ap (λ q. length (mine q log)) p in
         absurd (omega (arith, low, s, a.at, lt))
     go (inr a) (inr b) ih = let s : x.i ≡ y.i = ap (λ z. z.i) (new_place d log x y e f a b) in absurd (omega (arith, s, lt))
-
--- where all deeds of the log are of processor 0, the log is a history of its trace alone
-pub history_one : (log : Log) (t : List Entry) → t ≡ mine 0 log → ((q : ℕ) → q ≢ 0 → mine q log ≡ []) → IsHistory log (t ∷ [])
-history_one log t own none x e = go (cases_eq x.p 0)
-  where
-    past : (p i : ℕ) → p ≢ 0 → found_in (slice_get (t ∷ []) p) i ≡ None
-    past zero i ne = absurd (ne refl)
-    past (suc p) i ne = refl
-
-    go : (x.p ≡ 0) ⊎ (x.p ≡ 0 → ⊥) → Holds (t ∷ []) x e ↔ Was log x e
-    go (inl z) =
-        let a : entry_at (t ∷ []) x ≡ slice_get t x.i = ap (λ q. found_in (slice_get (t ∷ []) q) x.i) z in
-        let b : slice_get t x.i ≡ slice_get (mine x.p log) x.i = ap (λ s. slice_get s x.i) (own ∙ ap (λ q. mine q log) (sym z)) in
-        (λ h. sym b ∙ (sym a ∙ h), λ h. a ∙ (b ∙ h))
-    go (inr ne) =
-        let a = past x.p x.i ne in
-        let b : slice_get (mine x.p log) x.i ≡ None = ap (λ s. slice_get s x.i) (none x.p ne) in
-        (λ h. absurd (cc (a, h)), λ h. absurd (cc (b, h)))
-
--- two lists with the same items at the same places are one list
-same_items : (xs ys : List Entry) → ((i : ℕ) (e : Entry) → (slice_get xs i ≡ Some e) ↔ (slice_get ys i ≡ Some e)) → xs ≡ ys
-same_items [] [] h = refl
-same_items [] (y ∷ ys) h = absurd (let g = (h 0 y).1 refl in cc g)
-same_items (x ∷ xs) [] h = absurd (let g = (h 0 x).0 refl in cc g)
-same_items (x ∷ xs) (y ∷ ys) h =
-    let rest : xs ≡ ys = same_items xs ys (λ i e. h (suc i) e) in
-    let first : Some y ≡ Some x = (h 0 x).0 refl in
-    cc (rest, first)
-
--- a trace is what the log has of its processor
-pub trace_is : (log : Log) (ts : Traces) (p : ℕ) (t : List Entry) → IsHistory log ts → slice_get ts p ≡ Some t → t ≡ mine p log
-trace_is log ts p t history at =
-    same_items t (mine p log)
-    (λ i e.
-    let same : entry_at ts (record { p = p; i = i }) ≡ slice_get t i = ap (λ o. found_in o i) at in
-    let h = history (record { p = p; i = i }) e in
-    (λ g. h.0 (same ∙ g), λ g. sym same ∙ h.1 g))
-
--- where the entry of a deed is appended to its processor's trace, and all other traces stay, the
--- log with that deed is a history of the new traces
-pub history_step : (d : Deed) (log : Log) (old new : Traces) (t : List Entry) → IsHistory log old
-    → slice_get old d.p ≡ Some t → slice_get new d.p ≡ Some (t ++ d.e ∷ [])
-    → ((q : ℕ) → q ≢ d.p → slice_get new q ≡ slice_get old q) → IsHistory (d ∷ log) new
-history_step d log old new t history at grown others x e = go (cases_eq d.p x.p)
-  where
-    go : (d.p ≡ x.p) ⊎ (d.p ≡ x.p → ⊥) → Holds new x e ↔ Was (d ∷ log) x e
-    go (inl own) =
-        let a : slice_get new x.p ≡ Some (t ++ d.e ∷ []) = ap (λ q. slice_get new q) (sym own) ∙ grown in
-        let b : t ≡ mine x.p log = trace_is log old d.p t history at ∙ ap (λ q. mine q log) own in
-        let c : t ++ d.e ∷ [] ≡ mine x.p (d ∷ log) = ap (λ s. s ++ d.e ∷ []) b ∙ sym (mine_own d log x.p own) in
-        let same : entry_at new x ≡ slice_get (mine x.p (d ∷ log)) x.i = ap (λ o. found_in o x.i) a ∙ ap (λ s. slice_get s x.i) c in
-        (λ h. sym same ∙ h, λ h. same ∙ h)
-    go (inr ne) =
-        let same : entry_at new x ≡ entry_at old x = ap (λ o. found_in o x.i) (others x.p (λ f. ne (sym f))) in
-        let mine_same : slice_get (mine x.p (d ∷ log)) x.i ≡ slice_get (mine x.p log) x.i = ap (λ s. slice_get s x.i) (mine_other d log x.p ne) in
-        let h = history x e in
-        (λ g. mine_same ∙ h.0 (sym same ∙ g), λ g. same ∙ h.1 (sym mine_same ∙ g))
-
--- the history of one processor that did nothing yet
-pub history_start : IsHistory [] ([] ∷ [])
-history_start x e = (λ h. absurd (nothing x.p x.i h), λ h. absurd (cc h))
-  where
-    nothing : (p i : ℕ) → found_in (slice_get ([] ∷ []) p) i ≡ Some e → ⊥
-    nothing zero i h = cc h
-    nothing (suc p) i h = cc h
-
--- one processor alone appends an entry
-pub history_push : (log : Log) (t : List Entry) (e : Entry) → IsHistory log (t ∷ []) → IsHistory (record { p = 0; e = e } ∷ log) ((t ++ e ∷ []) ∷ [])
-history_push log t e history = history_step (record { p = 0; e = e }) log (t ∷ []) ((t ++ e ∷ []) ∷ []) t history refl refl others
-  where
-    others : (q : ℕ) → q ≢ 0 → slice_get ((t ++ e ∷ []) ∷ []) q ≡ slice_get (t ∷ []) q
-    others zero ne = absurd (ne refl)
-    others (suc q) ne = refl
-
--- the trace of one processor alone is what the log has of processor 0
-pub alone_is : (log : Log) (t : List Entry) → IsHistory log (t ∷ []) → t ≡ mine 0 log
-alone_is log t history = trace_is log (t ∷ []) 0 t history refl

@@ -77,18 +77,6 @@ next_below x p i (inr h) = go (cases_order x.i i)
     go (inr (inl lt)) = inl (inr (h.0, lt))
     go (inr (inr gt)) = absurd (omega (arith, h.1, gt))
 
-pub listed_none : (ts : Traces) (w : ℕ) → IsListed ts w (first_place 0) []
-listed_none ts w =
-    record {
-      each = λ k a h. absurd (cc h);
-      all = λ a h b. absurd (none a.place b);
-      sorted = λ k m a b lt h g. absurd (cc h);
-    }
-  where
-    none : (x : Place) → IsBelow x (first_place 0) → ⊥
-    none x (inl lt) = absurd (omega (arith, lt))
-    none x (inr h) = absurd (omega (arith, h.1))
-
 module _ (ts : Traces) (w p i : ℕ) (list : List Access) (g : IsListed ts w (record { p = p; i = i }) list) where
   pub listed_push : (e : Entry) (s : Bool) → Holds ts (record { p = p; i = i }) e → kind_of w e ≡ Some s → IsListed ts w (record { p = p; i = i + 1 }) (list ++ record { place = record { p = p; i = i }; stores = s } ∷ [])
   listed_push e s h k =
