@@ -1,4 +1,4 @@
-ghost use Rattle.std.specs.Prelude.{◌≡◌, ◌<◌, ◌≤◌, ◌^◌, [], None, length, IfOk, IfErr};
+ghost use Rattle.std.specs.Prelude.{◌≡◌, ◌<◌, ◌≤◌, ◌^◌, [], None, length, IfOk, IfErr, OnOk};
 ghost use Rattle.dsm_isa.specs.Jumps.{JumpsInside};
 ghost use Rattle.dsm_isa.specs.Rules.{IsInitial, ObjectsInside};
 ghost use Rattle.dsm_lex.specs.Lexical.{lines_of};
@@ -31,9 +31,7 @@ pub fn assemble(alloc: Global, text: &[u8]) -> Result<Program, AsmErr>
 {
     let labels = labels_of(alloc, text)?;
     let assembly = take_lines(alloc, text, &labels)?;
-    if assembly.code.is_empty() {
-        return refused(1, AsmKind::NoCode);
-    }
+    some_code(&assembly)?;
     program_law();
     finish(alloc, assembly)
 }
@@ -59,6 +57,20 @@ fn take_lines(alloc: Global, text: &[u8], labels: &Labels) -> Result<Assembly, A
         rest = behind;
     }
     Ok(assembly)
+}
+
+/// Refuses what has no instruction.
+fn some_code(assembly: &Assembly) -> Result<(), AsmFault>
+    ensures some { OnOk result (0 < length assembly.now.code) }
+    ensures fault { IfErr result (λ f. (length assembly.now.code ≡ 0) × (f ≡ record { line = 1; kind = AsmKind.NoCode })) }
+{
+    if assembly.code.is_empty() {
+        return Err(AsmFault {
+            line: 1,
+            kind: AsmKind::NoCode,
+        });
+    }
+    Ok(())
 }
 
 /// The program of what all lines have left.

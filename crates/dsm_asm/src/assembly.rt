@@ -1,12 +1,14 @@
-ghost use Rattle.std.specs.Prelude.{◌≡◌, ◌<◌, ◌^◌, ◌||◌, ◌++◌, ◌∷◌, ℕ, List, [], Option, None, true, length, IfErr, OnOk, MatchOption};
+ghost use Rattle.std.specs.Prelude.{◌≡◌, ◌<◌, ◌^◌, ◌||◌, ◌++◌, ◌∷◌, ℕ, List, [], ◌&&◌, Option, None, true, length, IfErr, IfOk, OnOk, MatchOption, false, Some};
 ghost use Rattle.std.specs.Option.{is_some, option_map};
 ghost use Rattle.dsm_grammar.specs.Grammar.{meaning_of};
 ghost use Rattle.dsm_grammar.specs.Lines.{label_of, statement_of};
+ghost use Rattle.dsm_grammar.specs.Statements.{named, instructions};
+ghost use Rattle.dsm_isa.specs.ProgramText.{Sizes as sizes_type};
 ghost use Rattle.dsm_asm.specs.Assembled.{IsRefused};
-ghost use Rattle.dsm_asm.specs.Directives.{directive_in, initial};
+ghost use Rattle.dsm_asm.specs.Directives.{directive_in, initial, of_size};
 ghost use Rattle.dsm_asm.specs.Forms.{statement_in};
 ghost use Rattle.dsm_asm.specs.Lines.{Says};
-ghost use Rattle.dsm_asm.specs.Past.{past_of, behind_statement, statement_fault_behind, fault_behind, directive_fault, instruction_fault, is_double as defined_before};
+ghost use Rattle.dsm_asm.specs.Past.{Past as past_type, past_of, behind_statement, statement_fault_behind, fault_behind, directive_fault, instruction_fault, is_double as defined_before};
 ghost use Rattle.dsm_asm.specs.Table.{held, places};
 ghost use Rattle.dsm_asm.specs.Words.{listed};
 
@@ -15,7 +17,7 @@ use crate::forms::{Form, form_of};
 use crate::instructions::instruction;
 use crate::labels::Labels;
 use crate::operands::Operands;
-use crate::said::{Statement, read_line};
+use crate::said::{Said, Statement, read_line};
 use crate::settings::{Directive, Settings, directive_of};
 use dsm_grammar::fault::{AsmKind, Bound};
 use dsm_isa::code::MOST;
@@ -59,16 +61,7 @@ impl Assembly {
         ensures behind { OnOk result (self.new ≡ behind_statement (places labels.now) (is_some (label_of line.now)) (statement_of line.now) self.old) }
         ensures fault { IfErr result (IsRefused (fault_behind self.old (places labels.now) (defined_before (held labels.now) number line.now) line.now)) }
     {
-        let said = read_line(line);
-        if !said.plain {
-            return Err(LineErr::Refused(AsmKind::NotAscii));
-        }
-        if !said.short {
-            return Err(LineErr::Refused(AsmKind::LongLine));
-        }
-        if is_double(said.label, number, labels) {
-            return Err(LineErr::Refused(AsmKind::DoubleLabel));
-        }
+        let said = read(line, number, labels)?;
         self.say(said.statement, said.label.is_some(), labels)
     }
 
@@ -106,10 +99,8 @@ impl Assembly {
         if let Some(directive) = directive_of(statement.name) {
             return self.direct(directive, statement.operands, labelled);
         }
-        match form_of(statement.name) {
-            Some(form) => self.instruct(form, statement.operands, labels),
-            None => Err(LineErr::Refused(AsmKind::UnknownWord)),
-        }
+        let form = known_form(statement.name)?;
+        self.instruct(form, statement.operands, labels)
     }
 
     /// Does what a directive says.
@@ -126,10 +117,19 @@ impl Assembly {
         ensures code { OnOk result (self.new.code ≡ self.old.code) }
         ensures fault { IfErr result (λ e. (labels : List ℕ → Option ℕ) → IsRefused (directive_fault self.old labels labelled directive (listed operands.entry)) e) }
     {
-        if self.begun || labelled || directive.is_of_size() && self.settings.has_begun() {
-            return Err(LineErr::Refused(AsmKind::DirectiveLate));
-        }
+        self.may_stand(directive, labelled)?;
         self.settings.set(directive, operands)
+    }
+
+    /// Refuses a directive that comes too late.
+    fn may_stand(&self, directive: Directive, labelled: bool) -> Result<(), AsmKind>
+        ensures timely { OnOk result ((self.now.begun || labelled || of_size directive && self.now.initial) ≡ false) }
+        ensures fault { IfErr result (λ kind. ((self.now.begun || labelled || of_size directive && self.now.initial) ≡ true) × (kind ≡ AsmKind.DirectiveLate)) }
+    {
+        if self.begun || labelled || directive.is_of_size() && self.settings.has_begun() {
+            return Err(AsmKind::DirectiveLate);
+        }
+        Ok(())
     }
 
     /// Appends an instruction.
@@ -141,14 +141,58 @@ impl Assembly {
         ensures code { OnOk result (self.new.code ≡ self.old.code ++ meaning_of (places labels.now) (statement_in self.old.settings.sizes form) (listed operands.entry) ∷ []) }
         ensures fault { IfErr result (IsRefused (instruction_fault self.old (places labels.now) form (listed operands.entry))) }
     {
-        let instr = instruction(form, operands, &self.settings, labels)?;
-        if self.code.len() >= MOST {
-            return Err(LineErr::Refused(AsmKind::Limit(Bound::Code)));
-        }
+        let instr = self.next_instruction(form, operands, labels)?;
         self.code.push(instr)?;
         self.begun = true;
         Ok(())
     }
+
+    /// The instruction of this form with these operands, where the code has room for it.
+    fn next_instruction(
+        &self,
+        form: Form,
+        operands: Operands,
+        labels: &Labels,
+    ) -> Result<Instr, AsmKind>
+        ensures sound { OnOk result (instruction_fault self.now (places labels.now) form (listed operands.entry) ≡ None) }
+        ensures meaning { IfOk result (λ i. meaning_of (places labels.now) (statement_in self.now.settings.sizes form) (listed operands.entry) ≡ i) }
+        ensures fault { IfErr result (λ kind. instruction_fault self.now (places labels.now) form (listed operands.entry) ≡ Some kind) }
+    {
+        let instr = instruction(form, operands, &self.settings, labels)?;
+        if self.code.len() >= MOST {
+            return Err(AsmKind::Limit(Bound::Code));
+        }
+        Ok(instr)
+    }
+}
+
+/// What a line says, before which there are `number` lines, or what is wrong with it before its statement is looked at.
+fn read<'a>(line: &'a [u8], number: u32, labels: &Labels) -> Result<Said<'a>, AsmKind>
+    requires { length line.now < 2 ^ 32 }
+    ensures label { IfOk result (λ said. option_map (λ label. label.now) said.label ≡ label_of line.now) }
+    ensures statement { IfOk result (λ said. MatchOption said.statement (statement_of line.now ≡ []) (λ s. Says (statement_of line.now) s)) }
+    ensures sound { OnOk result ((past : past_type) (to : List ℕ → Option ℕ) → fault_behind past to (defined_before (held labels.now) number line.now) line.now ≡ statement_fault_behind past to (is_some (label_of line.now)) (statement_of line.now)) }
+    ensures fault { IfErr result (λ kind. (past : past_type) (to : List ℕ → Option ℕ) → fault_behind past to (defined_before (held labels.now) number line.now) line.now ≡ Some kind) }
+{
+    let said = read_line(line);
+    if !said.plain {
+        return Err(AsmKind::NotAscii);
+    }
+    if !said.short {
+        return Err(AsmKind::LongLine);
+    }
+    if is_double(said.label, number, labels) {
+        return Err(AsmKind::DoubleLabel);
+    }
+    Ok(said)
+}
+
+/// The form of the instruction of this name.
+fn known_form(name: &[u8]) -> Result<Form, AsmKind>
+    ensures form { IfOk result (λ form. (there : sizes_type) → named name.now (instructions there) ≡ Some (statement_in there form)) }
+    ensures fault { IfErr result (λ kind. ((there : sizes_type) → named name.now (instructions there) ≡ None) × (kind ≡ AsmKind.UnknownWord)) }
+{
+    form_of(name).ok_or(AsmKind::UnknownWord)
 }
 
 /// Whether an earlier line defines the label.

@@ -19,6 +19,16 @@ pub enum AsmErr {
     NoMemory,
 }
 
+impl From<AsmFault> for AsmErr {
+    ghost use Rattle.dsm_asm.specs.declared.fault.AsmErr.TheVariants.{Refused as refuses};
+
+    ghost from_gives = { λ fault e. e ≡ refuses fault };
+
+    fn from(fault: AsmFault) -> AsmErr {
+        AsmErr::Refused(fault)
+    }
+}
+
 impl From<AllocError> for AsmErr {
     ghost use Rattle.dsm_asm.specs.declared.fault.AsmErr.TheVariants.{NoMemory as wants_memory};
 

@@ -20,7 +20,7 @@ use Rattle.dsm_local.specs.Readers.{next_action, IsInside}
 use Rattle.dsm_local.proofs.Inside.{IsInside-next_action}
 use Rattle.dsm_machine.specs.declared.head.Head.{Head}
 use Rattle.dsm_machine.specs.declared.head.Head.TheVariants.{Instruction, Locking, Looking}
-use Rattle.dsm_machine.specs.Own.{Own, Who, setting_of, looked_again}
+use Rattle.dsm_machine.specs.Own.{Own, Who, setting_of, Unready as Unready_looks, counted}
 use Rattle.dsm_machine.specs.Jobs.{Job, Make, Begin, Ended, call}
 use Rattle.dsm_machine.specs.Steps.{address_item, is_last, heed_job, stop_job, unready_job, tried_job, looked_job, look_job, action_job, head_job}
 use Rattle.dsm_machine.specs.Processors.{settled}
@@ -64,11 +64,11 @@ module _ (u : Who) (code : List Instr) where
       go false = (tt, aside)
 
   unready_keeps : (o : Own) (a : Act) (x : ℕ) (again : Head) → IsAside (item_of a) → Keeping a x [] o (unready_job u again)
-  unready_keeps o a x again aside = go (is_last u.limits.looks (looked_again o).counts.unready)
+  unready_keeps o a x again aside = go (is_last u.limits.looks (counted o Unready_looks).counts.unready)
     where
-      go : (b : Bool) → Keeping a x [] (looked_again o) (if b then stop_job u Looked else Make (Get Stop) (heed_job again))
+      go : (b : Bool) → Keeping a x [] (counted o Unready_looks) (if b then stop_job u Looked else Make (Get Stop) (heed_job again))
       go true = (tt, aside, λ y. (tt, tt))
-      go false = (tt, aside, λ y. heed_keeps (looked_again o) (Get Stop) y again tt)
+      go false = (tt, aside, λ y. heed_keeps (counted o Unready_looks) (Get Stop) y again tt)
 
   tried_keeps : (o : Own) (a : Act) (x l : ℕ) (got : Got) → IsAside (item_of a) → Keeping a x [] o (tried_job u l got)
   tried_keeps o a x l (Ready c) aside = (tt, aside, tt)

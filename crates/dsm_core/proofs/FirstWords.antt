@@ -1,18 +1,15 @@
 -- The first words, made from zeros and ones by storing one initial value after the other.
-use Rattle.std.proofs.Common.{◌≡◌, ◌≢◌, append_assoc, length-append, take, get_or, ℕ, zero, suc, ◌+◌, ◌-◌, ◌*◌, ◌/◌, ◌%◌, ◌<◌, ◌≤◌, ◌==◌, Bool, true, false, if◌then◌else◌, List, [], ◌∷◌, ◌++◌, length, map, replicate, refl, sym, ap, ◌∙◌, subst, arith}
+use Rattle.std.proofs.Common.{◌≡◌, ◌≢◌, append_assoc, append-nil, length-append, take, get_or, ℕ, zero, suc, ◌+◌, ◌-◌, ◌*◌, ◌<◌, ◌≤◌, ◌==◌, Bool, true, false, if◌then◌else◌, List, [], ◌∷◌, ◌++◌, length, map, replicate, refl, sym, ap, ◌∙◌, subst, arith}
 use Rattle.std.specs.Prelude.{flat_map, slice_set, None}
 use Rattle.std.specs.List.{range_with_len, AllPairs}
 use Rattle.std.specs.List.Sorted.{IsStrictlyIncreasing}
 use Rattle.std.proofs.lemmas.List.Kept.{AllPairs-from_increasing}
-use Rattle.std.proofs.lemmas.Bool.{eq-eqb, ne_eqb, eqb-true, eqb-false}
-use Rattle.std.proofs.Math.Nat.{mul_comm, div-add-mod}
-use Rattle.std.proofs.lemmas.Nat.{mul-add-lt}
-use Rattle.std.proofs.lemmas.List.{length-map, set-append_left, set-append_right, replicate-append-replicate, length-replicate, take_all, get_or-map}
+use Rattle.std.proofs.lemmas.Bool.{eq-eqb, eqb-true}
+use Rattle.std.proofs.lemmas.List.{length-map, length-replicate, take_all, get_or-map}
 use Rattle.std.proofs.lemmas.List.FromFn.{length-map-range_with_len}
-use Rattle.dsm_words.specs.declared.item.Item.TheVariants.{Frame}
-use Rattle.dsm_words.specs.Place.{Lay, sizes, start, place, total}
+use Rattle.dsm_words.specs.Place.{Lay, sizes, start, total}
 use Rattle.dsm_machine.specs.Machines.{sizes_in}
-use Rattle.dsm_core.specs.Setups.{Setup, initial, first_frames, first_words}
+use Rattle.dsm_core.specs.Setups.{Setup, initial, frames_of, first_words}
 
 -- a further value shows at its address, where none was given for it before, and nowhere else
 initial-other : (init : List (ℕ × ℕ)) (x : ℕ × ℕ) (w : ℕ) → w ≢ x.0 → initial (init ++ x ∷ []) w ≡ initial init w
@@ -66,33 +63,6 @@ set-map f g a (suc n) (suc k) inside other =
     let first : f a ≡ g a = other a (λ e. absurd (omega (arith, e))) in
     rw (first, at) (ap (λ l. g a ∷ l) (set-map f g (a + 1) n k (omega (arith, inside)) (λ w ne. other w (λ e. ne (omega (arith, e))))))
 
--- pieces of one length behind one another, one of which is changed
-module _ (f g : ℕ → List ℕ) (size : ℕ) (each : (n : ℕ) → length (f n) ≡ size) where
-  set-pieces : (n a m k v : ℕ) → m < n → k < size → ((j : ℕ) → j ≢ a + m → f j ≡ g j) → slice_set (f (a + m)) k v ≡ g (a + m)
-      → slice_set (flat_map f (range_with_len a n)) (m * size + k) v ≡ flat_map g (range_with_len a n)
-  set-pieces zero a m k v h inside other here = absurd (omega (arith, h))
-  set-pieces (suc n) a zero k v h inside other here =
-      let at : zero * size + k ≡ k = omega arith in
-      let p : a + zero ≡ a = omega arith in
-      ap (λ i. slice_set (f a ++ flat_map f (range_with_len (a + 1) n)) i v) at
-      ∙ set-append_left (f a) (flat_map f (range_with_len (a + 1) n)) k v (omega (arith, each a, inside))
-      ∙ ap (λ l. l ++ flat_map f (range_with_len (a + 1) n)) (subst (λ i. slice_set (f i) k v ≡ g i) p here)
-      ∙ ap (λ l. g a ++ l) (behind (a + 1) n (omega arith))
-    where
-      behind : (b m : ℕ) → a < b → flat_map f (range_with_len b m) ≡ flat_map g (range_with_len b m)
-      behind b zero h = refl
-      behind b (suc m) h = rw (other b (λ e. absurd (omega (arith, e, h)))) (ap (λ l. g b ++ l) (behind (b + 1) m (omega (arith, h))))
-  set-pieces (suc n) a (suc m) k v h inside other here =
-      let at : suc m * size + k ≡ size + (m * size + k) = grind arith in
-      let back : size + (m * size + k) - size ≡ m * size + k = omega arith in
-      let p : a + suc m ≡ a + 1 + m = omega arith in
-      let first : f a ≡ g a = other a (λ e. absurd (omega (arith, e))) in
-      ap (λ i. slice_set (f a ++ flat_map f (range_with_len (a + 1) n)) i v) at
-      ∙ set-append_right (f a) (flat_map f (range_with_len (a + 1) n)) size (size + (m * size + k)) v (each a) (omega arith)
-      ∙ ap (λ i. f a ++ slice_set (flat_map f (range_with_len (a + 1) n)) i v) back
-      ∙ ap (λ l. f a ++ l) (set-pieces n (a + 1) m k v (omega (arith, h)) inside (λ j ne. other j (λ e. ne (omega (arith, e)))) (subst (λ i. slice_set (f i) k v ≡ g i) p here))
-      ∙ ap (λ l. l ++ flat_map g (range_with_len (a + 1) n)) first
-
 -- the words at the start of a layout with these values, whatever the code and the limits
 abbrev pub setup_at : Lay → List (ℕ × ℕ) → Setup
 setup_at l init = record { program = record { shape = sizes_in l; init = init; code = [] }; nodes = l.nodes; procs = l.procs; limits = record { turns = 0; looks = None } }
@@ -100,121 +70,65 @@ setup_at l init = record { program = record { shape = sizes_in l; init = init; c
 abbrev pub words_at : Lay → List (ℕ × ℕ) → List ℕ
 words_at l init = first_words (setup_at l init)
 
--- zeros and ones, cut into pieces
-abbrev zeros : ℕ → List ℕ
-zeros n = replicate n 0
+-- the frames of one node, from zeros on
+pub no_value : (l : Lay) → replicate (l.pages * l.words) 0 ≡ frames_of l []
+no_value l = go (l.pages * l.words) 0
+  where
+    go : (n a : ℕ) → replicate n 0 ≡ map (λ w. initial [] w) (range_with_len a n)
+    go zero a = refl
+    go (suc n) a = ap (λ ws. 0 ∷ ws) (go n (a + 1))
 
-abbrev ones : ℕ → List ℕ
-ones n = replicate n 1
+-- a further value is stored at its address
+pub stored : (l : Lay) (init : List (ℕ × ℕ)) (x : ℕ × ℕ) → x.0 < l.pages * l.words → NotGiven init x.0 → slice_set (frames_of l init) x.0 x.1 ≡ frames_of l (init ++ x ∷ [])
+stored l init x inside new =
+    let more = init ++ x ∷ [] in
+    let address : 0 + x.0 ≡ x.0 = omega arith in
+    let is : initial more (0 + x.0) ≡ x.1 = ap (initial more) address ∙ initial-here init x new in
+    subst (λ v. slice_set (frames_of l init) x.0 v ≡ frames_of l more) is
+    (set-map (initial init) (initial more) 0 (l.pages * l.words) x.0 inside (λ w ne. sym (initial-other init x w (λ e. ne (e ∙ sym address)))))
 
-in_pieces : (n g m r : ℕ) → zeros (suc (n + g)) ++ ones m ++ zeros r ≡ 0 ∷ (zeros n ++ (zeros g ++ (ones m ++ zeros r)))
-in_pieces n g m r =
-    ap (λ ws. 0 ∷ (ws ++ ones m ++ zeros r)) (sym (replicate-append-replicate n g 0))
-    ∙ ap (λ ws. 0 ∷ ws) (append_assoc (zeros n ++ zeros g) (ones m) (zeros r) ∙ append_assoc (zeros n) (zeros g) (ones m ++ zeros r))
+-- one node's frames behind those of the others
+pub frames_more : (frames : List ℕ) (n a : ℕ) → flat_map (λ m. frames) (range_with_len a n) ++ frames ≡ flat_map (λ m. frames) (range_with_len a (n + 1))
+frames_more frames zero a = sym (append-nil frames)
+frames_more frames (suc n) a =
+    let more : suc (n + 1) ≡ suc n + 1 = omega arith in
+    append_assoc frames (flat_map (λ m. frames) (range_with_len (a + 1) n)) frames
+    ∙ ap (λ ws. frames ++ ws) (frames_more frames n (a + 1))
+    ∙ ap (λ k. flat_map (λ m. frames) (range_with_len a k)) more
 
-module _ (l : Lay) where
-  abbrev size : ℕ
-  size = l.pages * l.words
+length-copies : (frames : List ℕ) (n a : ℕ) → length (flat_map (λ m. frames) (range_with_len a n)) ≡ n * length frames
+length-copies frames zero a = omega arith
+length-copies frames (suc n) a = length-append frames (flat_map (λ m. frames) (range_with_len (a + 1) n)) ∙ grind (arith, length-copies frames n (a + 1))
 
+module _ (l : Lay) (init : List (ℕ × ℕ)) where
   abbrev gap : ℕ
   gap = start (sizes l) 9 - start (sizes l) 2
 
   abbrev rest : ℕ
   rest = total l - start (sizes l) 10
 
-  abbrev frames : List (ℕ × ℕ) → ℕ → List ℕ
-  frames init n = first_frames (setup_at l init) n
+  -- the stop word and all frames
+  abbrev shown : List ℕ
+  shown = 0 ∷ flat_map (λ n. frames_of l init) (range_with_len 0 l.nodes)
 
-  -- the value of word w of node n's frames
-  abbrev value : List (ℕ × ℕ) → ℕ → ℕ → ℕ
-  value init n w = if n == w / l.words % l.nodes then initial init w else 0
+  length-shown : length shown ≡ start (sizes l) 2
+  length-shown =
+      let one : length (frames_of l init) ≡ l.pages * l.words = length-map-range_with_len (initial init) 0 (l.pages * l.words) in
+      grind (arith, one, length-copies (frames_of l init) l.nodes 0)
 
-  each : (init : List (ℕ × ℕ)) (n : ℕ) → length (frames init n) ≡ size
-  each init n = length-map-range_with_len (value init n) 0 size
-
-  length-frames : (init : List (ℕ × ℕ)) (n a : ℕ) → length (flat_map (frames init) (range_with_len a n)) ≡ n * size
-  length-frames init zero a = omega arith
-  length-frames init (suc n) a = length-append (frames init a) (flat_map (frames init) (range_with_len (a + 1) n)) ∙ grind (arith, each init a, length-frames init n (a + 1))
-
-  -- where no value is given all frames are 0
-  no_value : (n a : ℕ) → map (λ w. value [] n w) (range_with_len a size) ≡ replicate size 0
-  no_value n a = all_zero size a
-    where
-      one : (w : ℕ) → value [] n w ≡ 0
-      one w = go (n == w / l.words % l.nodes)
-        where
-          go : (b : Bool) → ◌≡◌ {A = ℕ} (if b then 0 else 0) 0
-          go true = refl
-          go false = refl
-
-      all_zero : (m b : ℕ) → map (λ w. value [] n w) (range_with_len b m) ≡ replicate m 0
-      all_zero zero b = refl
-      all_zero (suc m) b = rw (one b) (ap (λ ws. 0 ∷ ws) (all_zero m (b + 1)))
-
-  no_values : (n a : ℕ) → flat_map (frames []) (range_with_len a n) ≡ replicate (n * size) 0
-  no_values zero a = ap (λ k. replicate k 0) (let z : 0 ≡ zero * size = omega arith in z)
-  no_values (suc n) a =
-      let more : size + n * size ≡ suc n * size = grind arith in
-      rw (no_value a 0, no_values n (a + 1)) (replicate-append-replicate size (n * size) 0) ∙ ap (λ k. replicate k 0) more
-
-  -- what follows the frames
-  abbrev tail : List ℕ
-  tail = zeros gap ++ (ones l.nodes ++ zeros rest)
-
-  -- zeros up to the clocks, ones up to the turns, and zeros up to the end
-  blocks : (a b r : ℕ) → a ≡ suc (l.nodes * size + gap) → b ≡ l.nodes → r ≡ rest → zeros a ++ ones b ++ zeros r ≡ words_at l []
-  blocks a b r is_a is_b is_r = rw (is_a, is_b, is_r) (in_pieces (l.nodes * size) gap l.nodes rest ∙ ap (λ ws. 0 ∷ (ws ++ tail)) (sym (no_values l.nodes 0)))
-
-  -- a list that is filled up three times
-  at_first : (a : ℕ) → ◌++◌ {A = ℕ} (take a []) (replicate (a - 0) 0) ≡ replicate a 0
-  at_first a = let none : ◌≡◌ {A = List ℕ} (take a []) [] = take_all a [] (omega arith) in let whole : a - 0 ≡ a = omega arith in rw (none, whole) refl
-
-  pub filled : (a b c : ℕ) (w0 w1 w2 w3 : List ℕ) (l0 l1 l2 : ℕ) → a ≡ start (sizes l) 9 → b ≡ start (sizes l) 10 → c ≡ total l → w0 ≡ [] → l0 ≡ 0 → l1 ≡ a → l2 ≡ b
-      → w1 ≡ take a w0 ++ replicate (a - l0) 0 → w2 ≡ take b w1 ++ replicate (b - l1) 1 → w3 ≡ take c w2 ++ replicate (c - l2) 0 → w3 ≡ words_at l []
+  -- a list that is filled up three times: zeros up to the clocks, ones up to the turns, and zeros up to the end
+  pub filled : (a b c : ℕ) (w0 w1 w2 w3 : List ℕ) (l0 l1 l2 : ℕ) → a ≡ start (sizes l) 9 → b ≡ start (sizes l) 10 → c ≡ total l → w0 ≡ shown → l0 ≡ length w0 → l1 ≡ a → l2 ≡ b
+      → w1 ≡ take a w0 ++ replicate (a - l0) 0 → w2 ≡ take b w1 ++ replicate (b - l1) 1 → w3 ≡ take c w2 ++ replicate (c - l2) 0 → w3 ≡ words_at l init
   filled a b c w0 w1 w2 w3 l0 l1 l2 is_a is_b is_c e0 k0 k1 k2 e1 e2 e3 =
-      let f1 : w1 ≡ replicate a 0 = e1 ∙ rw (e0, k0) (at_first a) in
-      let short : length w1 ≤ b = rw f1 (omega (arith, length-replicate {A = ℕ} a 0, is_a, is_b)) in
-      let f2 : w2 ≡ replicate a 0 ++ replicate (b - a) 1 = e2 ∙ rw (take_all b w1 short, f1, k1) refl in
-      let long : length w2 ≤ c = rw f2 (omega (arith, length-append {A = ℕ} (replicate a 0) (replicate (b - a) 1), length-replicate {A = ℕ} a 0, length-replicate {A = ℕ} (b - a) 1, is_a, is_b, is_c)) in
-      e3 ∙ rw (take_all c w2 long, f2, k2) (blocks a (b - a) (c - b) (is_a ∙ grind arith) (omega (arith, is_a, is_b)) (omega (arith, is_b, is_c)))
-
-  -- a further value is stored in the frame of its page's home
-  pub stored : (init : List (ℕ × ℕ)) (x : ℕ × ℕ) → x.0 < size → 0 < l.nodes → 0 < l.words → NotGiven init x.0
-      → slice_set (words_at l init) (place l (Frame (x.0 / l.words % l.nodes) (x.0 / l.words) (x.0 % l.words))) x.1 ≡ words_at l (init ++ x ∷ [])
-  stored init x inside some wide new =
-      ap (λ k. slice_set (words_at l init) k x.1) at
-      ∙ ap (λ ws. 0 ∷ ws) (set-append_left all tail (n * size + x.0) x.1 below ∙ ap (λ ws. ws ++ tail) (set-pieces (frames init) (frames (init ++ x ∷ [])) size (each init) l.nodes 0 n x.0 x.1 home inside others here))
-    where
-      n : ℕ
-      n = x.0 / l.words % l.nodes
-
-      all : List ℕ
-      all = flat_map (frames init) (range_with_len 0 l.nodes)
-
-      home : n < l.nodes
-      home = omega arith
-
-      at : place l (Frame n (x.0 / l.words) (x.0 % l.words)) ≡ suc (n * size + x.0)
-      at = grind (arith, div-add-mod x.0 l.words)
-
-      below : n * size + x.0 < length all
-      below = rw (length-frames init l.nodes 0, mul_comm l.nodes size) (mul-add-lt n size x.0 l.nodes home inside)
-
-      others : (j : ℕ) → j ≢ 0 + n → frames init j ≡ frames (init ++ x ∷ []) j
-      others j ne = map-same (value init j) (value (init ++ x ∷ []) j) 0 size (λ w. one w (w == x.0) refl)
-        where
-          one : (w : ℕ) (b : Bool) → (w == x.0) ≡ b → value init j w ≡ value (init ++ x ∷ []) j w
-          one w true e =
-              let is : w ≡ x.0 = eqb-true w x.0 e in
-              let off : (j == w / l.words % l.nodes) ≡ false = ne_eqb j (w / l.words % l.nodes) (λ at_home. ne (at_home ∙ ap (λ v. v / l.words % l.nodes) is ∙ omega arith)) in
-              rw off refl
-          one w false e = ap (λ v. if j == w / l.words % l.nodes then v else 0) (sym (initial-other init x w (eqb-false w x.0 e)))
-
-      here : slice_set (frames init (0 + n)) x.0 x.1 ≡ frames (init ++ x ∷ []) (0 + n)
-      here =
-          let g : ℕ → ℕ = value (init ++ x ∷ []) (0 + n) in
-          let address : 0 + x.0 ≡ x.0 = omega arith in
-          let yes : (0 + n == n) ≡ true = eq-eqb (0 + n) n (omega arith) in
-          let is : g (0 + x.0) ≡ x.1 = ap g address ∙ rw yes (initial-here init x new) in
-          subst (λ v. slice_set (map (value init (0 + n)) (range_with_len 0 size)) x.0 v ≡ map g (range_with_len 0 size)) is
-          (set-map (value init (0 + n)) g 0 size x.0 inside (λ w ne. ap (λ v. if 0 + n == w / l.words % l.nodes then v else 0) (sym (initial-other init x w (λ e. ne (e ∙ sym address))))))
+      let known : length w0 ≡ start (sizes l) 2 = ap length e0 ∙ length-shown in
+      let fits : length w0 ≤ a = omega (arith, known, is_a) in
+      let g : a - l0 ≡ gap = omega (arith, known, k0, is_a) in
+      let m : b - l1 ≡ l.nodes = omega (arith, k1, is_a, is_b) in
+      let r : c - l2 ≡ rest = omega (arith, k2, is_b, is_c) in
+      let f1 : w1 ≡ shown ++ replicate gap 0 = e1 ∙ rw (take_all a w0 fits, e0, g) refl in
+      let n1 : length w1 ≡ a = rw f1 (length-append shown (replicate gap 0) ∙ omega (arith, length-replicate {A = ℕ} gap 0, length-shown, is_a)) in
+      let f2 : w2 ≡ w1 ++ replicate l.nodes 1 = e2 ∙ rw (take_all b w1 (omega (arith, n1, is_a, is_b)), m) refl in
+      let n2 : length w2 ≡ b = rw f2 (length-append w1 (replicate l.nodes 1) ∙ omega (arith, length-replicate {A = ℕ} l.nodes 1, n1, is_a, is_b)) in
+      let f3 : w3 ≡ w2 ++ replicate rest 0 = e3 ∙ rw (take_all c w2 (omega (arith, n2, is_b, is_c)), r) refl in
+      f3
+      ∙ rw (f2, f1) (append_assoc (shown ++ replicate gap 0) (replicate l.nodes 1) (replicate rest 0) ∙ append_assoc shown (replicate gap 0) (replicate l.nodes 1 ++ replicate rest 0))

@@ -1,8 +1,9 @@
 -- On one node a run whose log is legal is flat in every word that is ordered.
-use Rattle.std.proofs.Common.{◌≡◌, ℕ, ◌+◌, ◌*◌, ◌/◌, ◌%◌, ◌<◌, List, map, sym, ap, ◌∙◌, subst, arith, slice_index}
+use Rattle.std.proofs.Common.{◌≡◌, ℕ, ◌+◌, ◌-◌, ◌*◌, ◌/◌, ◌%◌, ◌<◌, List, map, sym, ap, ◌∙◌, subst, arith, slice_index}
 use Rattle.std.proofs.Math.Nat.{mod-one}
 use Rattle.std.proofs.lemmas.List.FromFn.{get_or-map-range_with_len}
-use Rattle.dsm_words.specs.declared.item.Item.TheVariants.{Frame}
+use Rattle.dsm_words.specs.declared.item.Item.TheVariants.{Frame, Home}
+use Rattle.dsm_words.specs.Homes.{home_in, master}
 use Rattle.dsm_words.specs.Words.{word}
 use Rattle.dsm_flat.specs.Order.{Traces}
 use Rattle.dsm_flat.specs.Flat.{Ordered, Flat, Sourced, Final}
@@ -14,7 +15,7 @@ use Rattle.dsm_flat.proofs.LogAccesses.{accesses_of, are_accesses}
 use Rattle.dsm_flat.proofs.WordLaw.{word_is_flat}
 use Rattle.dsm_core.specs.Setups.{Setup, lay_in, initial}
 use Rattle.dsm_core.specs.Clusters.{Cluster, Event, start, exactly, after_all_loose, reached}
-use Rattle.dsm_core.specs.Outcomes.{Ran, ran_of, master}
+use Rattle.dsm_core.specs.Outcomes.{Ran, ran_of}
 use Rattle.dsm_core.proofs.Reaching.{reached_is_loose}
 use Rattle.dsm_core.proofs.Logs.{log_of}
 use Rattle.dsm_core.proofs.Histories.{traces_of, is_history}
@@ -53,8 +54,9 @@ module _ (s : Setup) (one : s.nodes ≡ 1) (P : ℕ) (events : List Event) (lega
   page_is : (w : ℕ) → w < s.program.shape.pages * s.program.shape.words → slice_index (ran_of s end).pages w ≡ latest (init w) (accesses_of w log)
   page_is w below =
       let at : 0 + w ≡ w = omega arith in
-      let home : w / s.program.shape.words % s.nodes ≡ 0 = ap (λ n. w / s.program.shape.words % n) one ∙ mod-one (w / s.program.shape.words) in
-      get_or-map-range_with_len (λ v. word (lay_in s) end.words (master s v)) 0 (s.program.shape.pages * s.program.shape.words) w w 0 below at
+      let named : ℕ = word (lay_in s) end.words (Home (w / s.program.shape.words)) - 1 in
+      let home : home_in (lay_in s) end.words (w / s.program.shape.words) ≡ 0 = ap (λ n. named % n) one ∙ mod-one named in
+      get_or-map-range_with_len (λ v. word (lay_in s) end.words (master (lay_in s) end.words v)) 0 (s.program.shape.pages * s.program.shape.words) w w 0 below at
       ∙ ap (λ n. word (lay_in s) end.words (Frame n (w / s.program.shape.words) (w % s.program.shape.words))) home
       ∙ told.held w below
 

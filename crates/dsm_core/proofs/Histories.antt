@@ -14,7 +14,7 @@ use Rattle.dsm_flat.proofs.History.{Log, mine, IsHistory}
 use Rattle.dsm_machine.specs.declared.head.Head.{Head}
 use Rattle.dsm_machine.specs.declared.head.Head.TheVariants.{Instruction, Locking, Looking}
 use Rattle.dsm_machine.specs.Own.{Own, Who, setting_of, new_own}
-use Rattle.dsm_machine.specs.Jobs.{Note, Give, Go, Move, Append, Count_unready, Job, Make, Again, Mark, Ask, Begin, Ended, own_after, job_after}
+use Rattle.dsm_machine.specs.Jobs.{Note, Give, Go, Move, Append, Map_own, Soil, Clean, Join, Count, Happen, Job, Make, Again, Mark, Ask, Begin, Ended, own_after, job_after}
 use Rattle.dsm_machine.specs.Steps.{action_job, head_job}
 use Rattle.dsm_machine.specs.Processors.{Processor, settled, begun, run_on, new_processor, wanting, after_given}
 use Rattle.dsm_core.specs.Setups.{Setup, lay_in, who_at}
@@ -38,7 +38,12 @@ note_grows o (Give d v) = Grows-same o.trace
 note_grows o (Go to) = Grows-same o.trace
 note_grows o Move = Grows-same o.trace
 note_grows o (Append e) = (e ∷ [], refl)
-note_grows o Count_unready = Grows-same o.trace
+note_grows o (Map_own page mode) = Grows-same o.trace
+note_grows o (Soil page) = Grows-same o.trace
+note_grows o (Clean page) = Grows-same o.trace
+note_grows o (Join pages) = Grows-same o.trace
+note_grows o (Count tally) = Grows-same o.trace
+note_grows o (Happen moment) = Grows-same o.trace
 
 settled_grows : (j : Job) (o : Own) → Grows o.trace (settled o j).own.trace
 settled_grows (Make a k) o = Grows-same o.trace

@@ -1,5 +1,5 @@
 -- What a state leaves, machine by machine.
-use Rattle.std.proofs.Common.{◌≡◌, ℕ, Bool, ◌+◌, ◌*◌, ◌/◌, ◌%◌, ◌^◌, List, [], ◌∷◌, ◌++◌, Some, map, refl, sym, ap, ◌∙◌, arith}
+use Rattle.std.proofs.Common.{◌≡◌, ℕ, Bool, ◌+◌, ◌*◌, ◌%◌, ◌^◌, List, [], ◌∷◌, ◌++◌, Some, map, refl, sym, ap, ◌∙◌, arith}
 use Rattle.std.specs.Prelude.{◌↔◌, slice_index, slice_get, is_some, IsTrue, All}
 use Rattle.std.specs.List.{range_with_len, list_all}
 use Rattle.std.proofs.lemmas.List.{map_push}
@@ -8,7 +8,7 @@ use Rattle.std.proofs.lemmas.Option.{slice_get-map}
 use Rattle.std.proofs.lemmas.List.Sums.{sum_by_push, AllPass-from_list_all, list_all-from_AllPass}
 use Rattle.std.proofs.lemmas.List.Folds.{list_all-map}
 use Rattle.dsm_isa.specs.declared.instr.Instr.{Instr}
-use Rattle.dsm_words.specs.declared.item.Item.TheVariants.{Frame}
+use Rattle.dsm_words.specs.Homes.{master}
 use Rattle.dsm_words.specs.Place.{Lay, place}
 use Rattle.dsm_words.specs.Words.{word}
 use Rattle.dsm_machine.specs.declared.machine.Machine.{Machine}
@@ -18,12 +18,12 @@ use Rattle.dsm_machine.specs.Machines.{processor_in}
 use Rattle.dsm_machine.specs.Processors.{Processor, ending}
 use Rattle.dsm_machine.specs.Jobs.{Job, Make, Again, Mark, Ask, Begin, Ended, end_of, has_ended}
 use Rattle.dsm_core.specs.Setups.{Setup, lay_in, addresses}
-use Rattle.dsm_core.specs.Outcomes.{master, total_of, total_counts}
+use Rattle.dsm_core.specs.Outcomes.{total_of, total_counts}
 use Rattle.dsm_core.proofs.Lists.{slice_get-map-range_with_len}
 
 -- the word of address w at its home
 abbrev pub master_word : Lay → List ℕ → ℕ → ℕ
-master_word l ws w = slice_index ws (place l (Frame (w / l.words % l.nodes) (w / l.words) (w % l.words)))
+master_word l ws w = slice_index ws (place l (master l ws w))
 
 -- the words of all addresses below n
 abbrev pub master_words : Lay → List ℕ → ℕ → List ℕ
@@ -51,7 +51,7 @@ counts_more ps p = λ i. record {
 }
 
 -- the words of memory, as the definition has them
-pub pages_are : (s : Setup) (ws : List ℕ) (l : Lay) → l ≡ lay_in s → master_words l ws (l.pages * l.words) ≡ map (λ w. word (lay_in s) ws (master s w)) (addresses s)
+pub pages_are : (s : Setup) (ws : List ℕ) (l : Lay) → l ≡ lay_in s → master_words l ws (l.pages * l.words) ≡ map (λ w. word (lay_in s) ws (master (lay_in s) ws w)) (addresses s)
 unfolding word
 pages_are s ws l for = ap (λ k. master_words k ws (k.pages * k.words)) for
 

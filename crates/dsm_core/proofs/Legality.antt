@@ -15,7 +15,8 @@ use Rattle.dsm_words.specs.Script.{Act, Get}
 use Rattle.dsm_words.specs.Words.{done, reply}
 use Rattle.dsm_machine.specs.declared.head.Head.TheVariants.{Instruction}
 use Rattle.dsm_machine.specs.Own.{Own, new_own}
-use Rattle.dsm_machine.specs.Jobs.{Job, Make, Again, Mark, Ask, Begin, Ended, first_act, job_after}
+use Rattle.dsm_machine.specs.Jobs.{Job, Make, Again, Mark, Ask, Begin, Ended, first_act, job_after, has_ended}
+use Rattle.dsm_machine.specs.Steps.{starved_job}
 use Rattle.dsm_machine.specs.Processors.{Processor, run_on, new_processor, wanting, after_given}
 use Rattle.dsm_core.specs.Setups.{Setup, IsSetup, lay_in, who_at}
 use Rattle.dsm_core.specs.Clusters.{Cluster, Event, start, answer, act_in, moved, after_loose, after_all_loose}
@@ -75,7 +76,11 @@ module _ (s : Setup) where
 
     -- a processor that wants memory has another job
     pub wanting_good : (p : ℕ) (log : Log) (m : Processor) (b : Bool) → IsGood (who_at s p) log m → IsGood (who_at s p) log (wanting (who_at s p) b m)
-    wanting_good p log m true g = record { held = g.held; places = g.places; few = g.few; syncs = syncs_stop (who_at s p) m.own None NoMemory tt }
+    wanting_good p log m true g = go (has_ended m.todo)
+      where
+        go : (b : Bool) → IsGood (who_at s p) log (record { own = m.own; todo = if b then m.todo else starved_job (who_at s p) })
+        go true = g
+        go false = record { held = g.held; places = g.places; few = g.few; syncs = syncs_stop (who_at s p) m.own None NoMemory tt }
     wanting_good p log m false g = g
 
     module _ (c : Cluster) (log : Log) (fine : IsFine c log) (p : ℕ) (placed : p < all) where

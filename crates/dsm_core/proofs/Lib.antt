@@ -1,5 +1,6 @@
 pub mod Accesses
 pub mod Agreeing
+mod Alive
 pub mod Counting
 pub mod Events
 pub mod FirstWords

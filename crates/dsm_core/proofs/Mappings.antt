@@ -11,7 +11,7 @@ use Rattle.dsm_words.specs.Script.{Act, Get, Put, Swap, Change, Add, Or, item_of
 use Rattle.dsm_words.specs.Words.{word, done}
 use Rattle.dsm_words.proofs.WordLaws.{word_other}
 use Rattle.dsm_machine.specs.Own.{Own, Who}
-use Rattle.dsm_machine.specs.Jobs.{Give, Go, Move, Append, Count_unready, Job, Make, Again, Mark, Ask, Begin, Ended, own_after, first_act}
+use Rattle.dsm_machine.specs.Jobs.{Give, Go, Move, Append, Map_own, Soil, Clean, Join, Count, Happen, Job, Make, Again, Mark, Ask, Begin, Ended, own_after, first_act}
 use Rattle.dsm_machine.specs.Processors.{wanting}
 use Rattle.dsm_core.specs.Setups.{lay_in, who_at}
 use Rattle.dsm_core.specs.Clusters.{start, act_in, after_all_loose}
@@ -69,7 +69,12 @@ module _ (u : Who) where
   behind_spares a o (Mark (Give r v) j) s = behind_spares a (own_after o (Give r v)) j s
   behind_spares a o (Mark (Go to) j) s = behind_spares a (own_after o (Go to)) j s
   behind_spares a o (Mark Move j) s = behind_spares a (own_after o Move) j s
-  behind_spares a o (Mark Count_unready j) s = behind_spares a (own_after o Count_unready) j s
+  behind_spares a o (Mark (Map_own page mode) j) s = behind_spares a (own_after o (Map_own page mode)) j s
+  behind_spares a o (Mark (Soil page) j) s = behind_spares a (own_after o (Soil page)) j s
+  behind_spares a o (Mark (Clean page) j) s = behind_spares a (own_after o (Clean page)) j s
+  behind_spares a o (Mark (Join pages) j) s = behind_spares a (own_after o (Join pages)) j s
+  behind_spares a o (Mark (Count tally) j) s = behind_spares a (own_after o (Count tally)) j s
+  behind_spares a o (Mark (Happen moment) j) s = behind_spares a (own_after o (Happen moment)) j s
   behind_spares a o (Ask f) s = behind_spares a o (f o) s
   behind_spares a o (Begin h) s = quiet_spares a s.0
   behind_spares a o (Ended e) s = quiet_spares a s

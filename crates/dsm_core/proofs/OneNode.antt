@@ -1,7 +1,7 @@
 -- On one node each load has the value of the latest store in the log, and so has each word at every moment.
 use Rattle.std.proofs.Common.{◌≡◌, ◌≢◌, ◌⊎◌, inl, inr, ℕ, zero, suc, ◌+◌, ◌*◌, ◌/◌, ◌%◌, ◌<◌, ◌==◌, Bool, true, false, List, [], ◌∷◌, ◌++◌, map, length, length-set, Some, None, refl, sym, ap, ◌∙◌, subst, arith, if◌then◌else◌}
 use Rattle.std.specs.Prelude.{slice_get, slice_index, slice_set}
-use Rattle.std.proofs.Math.Nat.{div-eq_of_lt, div-add-mod, mod-lt, mod-one, div-lt_iff_lt-mul}
+use Rattle.std.proofs.Math.Nat.{div-eq_of_lt, div-add-mod, mod-lt, div-lt_iff_lt-mul}
 use Rattle.std.proofs.lemmas.Bool.{cases_eq, eq-eqb, ne_eqb}
 use Rattle.std.proofs.lemmas.List.{get_or-set_other}
 use Rattle.std.proofs.lemmas.Option.{slice_get_within}
@@ -216,10 +216,8 @@ module _ (s : Setup) (one : s.nodes ≡ 1) where
 
   start_held : Held (start s).words []
   start_held w below =
-      let home : 0 ≡ w / s.program.shape.words % s.nodes = sym (ap (λ n. w / s.program.shape.words % n) one ∙ mod-one (w / s.program.shape.words)) in
       let at : w / s.program.shape.words * s.program.shape.words + w % s.program.shape.words ≡ w = grind (arith, div-add-mod w s.program.shape.words) in
       starts_by_items s (cell w) (cell_within w below)
-      ∙ ap (λ b. if b then first (w / s.program.shape.words * s.program.shape.words + w % s.program.shape.words) else 0) (eq-eqb 0 (w / s.program.shape.words % s.nodes) home)
       ∙ ap first at
 
   start_stand : (p : ℕ) (m : Processor) → slice_get (start s).processors p ≡ Some m → StandsAt (Accesses (who_at s p)) AnyHead tt m

@@ -30,8 +30,8 @@ use Rattle.dsm_sync.specs.Counting.{count_of}
 use Rattle.dsm_sync.specs.Locks.{take_script}
 use Rattle.dsm_machine.specs.declared.head.Head.{Head}
 use Rattle.dsm_machine.specs.declared.head.Head.TheVariants.{Instruction, Locking, Looking}
-use Rattle.dsm_machine.specs.Own.{Own, Who, setting_of, looked_again}
-use Rattle.dsm_machine.specs.Jobs.{Give, Go, Move, Append, Count_unready, Job, Make, Again, Mark, Ask, Begin, Ended, own_after, call}
+use Rattle.dsm_machine.specs.Own.{Own, Who, setting_of, Unready as Unready_looks, counted}
+use Rattle.dsm_machine.specs.Jobs.{Give, Go, Move, Append, Map_own, Soil, Clean, Join, Count, Happen, Job, Make, Again, Mark, Ask, Begin, Ended, own_after, call}
 use Rattle.dsm_machine.specs.Steps.{address_item, is_last, heed_job, stop_job, unready_job, tried_job, lock_job, unlock_job, looked_job, look_job, need_of, arrive_job, set_job, action_job, head_job}
 use Rattle.dsm_flat.proofs.History.{get_push_new}
 use Rattle.dsm_core.proofs.Counting.{one_more, many, many-push}
@@ -122,7 +122,12 @@ Syncs u o d (Mark (Append e) j) = Owes u o d e × Syncs u (own_after o (Append e
 Syncs u o d (Mark (Give r v) j) = Syncs u (own_after o (Give r v)) d j
 Syncs u o d (Mark (Go to) j) = Syncs u (own_after o (Go to)) d j
 Syncs u o d (Mark Move j) = Syncs u (own_after o Move) d j
-Syncs u o d (Mark Count_unready j) = Syncs u (own_after o Count_unready) d j
+Syncs u o d (Mark (Map_own page mode) j) = Syncs u (own_after o (Map_own page mode)) d j
+Syncs u o d (Mark (Soil page) j) = Syncs u (own_after o (Soil page)) d j
+Syncs u o d (Mark (Clean page) j) = Syncs u (own_after o (Clean page)) d j
+Syncs u o d (Mark (Join pages) j) = Syncs u (own_after o (Join pages)) d j
+Syncs u o d (Mark (Count tally) j) = Syncs u (own_after o (Count tally)) d j
+Syncs u o d (Mark (Happen moment) j) = Syncs u (own_after o (Happen moment)) d j
 Syncs u o d (Ask f) = Syncs u o d (f o)
 Syncs u o d (Begin h) = Rests u d × IsReady u o h
 Syncs u o d (Ended e) = Rests u d
@@ -158,7 +163,7 @@ module _ (u : Who) where
       go false = tt
 
   -- an unready look is no matter to what holds at a head
-  still_ready : (o : Own) (h : Head) → IsReady u o h → IsReady u (looked_again o) h
+  still_ready : (o : Own) (h : Head) → IsReady u o h → IsReady u (counted o Unready_looks) h
   still_ready o Instruction ready = ready
   still_ready o (Locking l) ready = ready
   still_ready o (Looking (Flag f) need) ready = ready
@@ -166,11 +171,11 @@ module _ (u : Who) where
   still_ready o (Looking Close need) ready = ready
 
   syncs_unready : (o : Own) (d : Option (Act × ℕ)) (again : Head) → Rests u d → IsReady u o again → Syncs u o d (unready_job u again)
-  syncs_unready o d again rests ready = go (is_last u.limits.looks (looked_again o).counts.unready)
+  syncs_unready o d again rests ready = go (is_last u.limits.looks (counted o Unready_looks).counts.unready)
     where
-      go : (b : Bool) → Syncs u (looked_again o) d (if b then stop_job u Looked else Make (Get Stop) (heed_job again))
-      go true = syncs_stop (looked_again o) d Looked rests
-      go false = (rests, λ x. syncs_heed (looked_again o) again x (still_ready o again ready))
+      go : (b : Bool) → Syncs u (counted o Unready_looks) d (if b then stop_job u Looked else Make (Get Stop) (heed_job again))
+      go true = syncs_stop (counted o Unready_looks) d Looked rests
+      go false = (rests, λ x. syncs_heed (counted o Unready_looks) again x (still_ready o again ready))
 
   syncs_lock : (o : Own) (l : ℕ) → l < u.lay.locks → many o.trace ≤ o.reader.done → Syncs u o None (lock_job u l)
   syncs_lock o l there few = (tt, λ v. go v (v % 2 == 0) refl)

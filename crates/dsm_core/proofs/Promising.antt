@@ -13,10 +13,10 @@ use Rattle.dsm_flat.specs.Flat.{Ordered}
 use Rattle.dsm_flat.specs.Sync.{SyncLegal}
 use Rattle.dsm_flat.proofs.OrderLaws.{Ordered-one}
 use Rattle.dsm_core.specs.Setups.{Setup, IsSetup, who_at}
-use Rattle.dsm_core.specs.Clusters.{Event, exactly, reached}
+use Rattle.dsm_core.specs.Clusters.{Event, exactly, given_by, reached}
 use Rattle.dsm_core.specs.Outcomes.{ran_of}
 use Rattle.dsm_core.specs.Stopping.{HasToldAll}
-use Rattle.dsm_core.specs.Promises.{AllLocal, AllTold, IsFlatWord, Promises, EveryRunKeepsThem}
+use Rattle.dsm_core.specs.Promises.{AllLocal, AllTold, Promises, EveryRunKeepsThem, WordPromise, OneNodeKeepsWords, AloneIsOrdered}
 use Rattle.dsm_core.proofs.Lists.{some_one}
 use Rattle.dsm_core.proofs.Reaching.{reached_is_loose, reached_given, length-reached}
 use Rattle.dsm_core.proofs.Stops.{every_stopped}
@@ -45,7 +45,7 @@ reached_local s events p trace end at ends =
     let b = item_of_map ending ps p end ends in
     let same : b.0 ≡ a.0 = some_one b.0 a.0 (sym b.1 ∙ a.1) in
     let given = reached_given s events p a.0 a.1 in
-    let local = given_local s p a.0 given.0 given.1 in
+    let local = given_local s p a.0 (given_by s (map exactly events) p) given in
     subst (λ (x : List Entry × Option End). Local s.program p (s.nodes * s.procs) s.limits.turns x.0 x.1) (λ i. (sym a.2 i, sym (b.2 ∙ ap ending same) i)) local
 
 reached_told : (s : Setup) (events : List Event) → s.nodes * s.procs < 2 ^ 32 → AllTold (ran_of s (reached s events))
@@ -61,7 +61,7 @@ reached_told s events few p b at =
 reached_legal : (s : Setup) (events : List Event) → IsSetup s → SyncLegal (ran_of s (reached s events)).traces (s.nodes * s.procs)
 reached_legal s events setup = subst (λ c. SyncLegal (ran_of s c).traces (s.nodes * s.procs)) (sym (reached_is_loose s events)) (every_sync_legal s (map exactly events) setup)
 
-reached_flat : (s : Setup) (events : List Event) → IsSetup s → s.nodes ≡ 1 → (w : ℕ) → IsFlatWord s (ran_of s (reached s events)) w
+reached_flat : (s : Setup) (events : List Event) → IsSetup s → s.nodes ≡ 1 → (w : ℕ) → WordPromise s (ran_of s (reached s events)) w
 reached_flat s events setup one w =
     let all = flat_where_legal s one (s.nodes * s.procs) events (every_log_legal s setup (map exactly events)) in
     record { sourced = all.sourced w; flat = all.flat w; last = λ ordered halted below. all.last w below ordered }
@@ -83,6 +83,10 @@ every_run s events ran setup outcome =
       local = reached_local s events;
       told = reached_told s events few;
       legal = reached_legal s events setup;
-      flat = λ one. reached_flat s events setup one;
-      alone = λ one. reached_alone s events one;
     })
+
+pub one_node_keeps_words : OneNodeKeepsWords
+one_node_keeps_words s events ran setup one outcome w = subst (λ r. WordPromise s r w) outcome.leaves (reached_flat s events setup one w)
+
+pub alone_is_ordered : AloneIsOrdered
+alone_is_ordered s events ran one outcome w = subst (λ r. Ordered r.traces w) outcome.leaves (reached_alone s events one w)

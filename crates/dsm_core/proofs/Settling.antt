@@ -14,7 +14,7 @@ use Rattle.dsm_local.specs.declared.reader.Reader.{Reader}
 use Rattle.dsm_words.specs.Place.{processors}
 use Rattle.dsm_words.specs.Script.{Act, Put, Change, Add}
 use Rattle.dsm_machine.specs.Own.{Own, Who, reader_after}
-use Rattle.dsm_machine.specs.Jobs.{Give, Go, Move, Append, Count_unready, Job, Make, Again, Mark, Ask, Begin, Ended, own_after}
+use Rattle.dsm_machine.specs.Jobs.{Give, Go, Move, Append, Map_own, Soil, Clean, Join, Count, Happen, Job, Make, Again, Mark, Ask, Begin, Ended, own_after}
 use Rattle.dsm_machine.specs.Steps.{head_job}
 use Rattle.dsm_machine.specs.Processors.{Processor, settled, begun, run_on}
 use Rattle.dsm_core.proofs.Lists.{slice_get-set_same, slice_get-set_other}
@@ -140,7 +140,12 @@ module _ (u : Who) (code : List Instr) (placed : u.p < processors u.lay) (some :
   settled_good (Mark (Give r v) j) o log own s = settled_good j (own_after o (Give r v)) log own s
   settled_good (Mark (Go to) j) o log own s = settled_good j (own_after o (Go to)) log own s
   settled_good (Mark Move j) o log own s = settled_good j (own_after o Move) log own s
-  settled_good (Mark Count_unready j) o log own s = settled_good j (own_after o Count_unready) log own s
+  settled_good (Mark (Map_own page mode) j) o log own s = settled_good j (own_after o (Map_own page mode)) log own s
+  settled_good (Mark (Soil page) j) o log own s = settled_good j (own_after o (Soil page)) log own s
+  settled_good (Mark (Clean page) j) o log own s = settled_good j (own_after o (Clean page)) log own s
+  settled_good (Mark (Join pages) j) o log own s = settled_good j (own_after o (Join pages)) log own s
+  settled_good (Mark (Count tally) j) o log own s = settled_good j (own_after o (Count tally)) log own s
+  settled_good (Mark (Happen moment) j) o log own s = settled_good j (own_after o (Happen moment)) log own s
   settled_good (Mark (Append e) j) o log own s = absurd s.0
   settled_good (Ask f) o log own s = settled_good (f o) o log own s
   settled_good (Begin h) o log own s = good_at o (Begin h) log own s
@@ -178,7 +183,12 @@ module _ (u : Who) (code : List Instr) (placed : u.p < processors u.lay) (some :
     ran (Mark (Give r v) j) o own s = ran j (own_after o (Give r v)) own s
     ran (Mark (Go to) j) o own s = ran j (own_after o (Go to)) own s
     ran (Mark Move j) o own s = ran j (own_after o Move) own s
-    ran (Mark Count_unready j) o own s = ran j (own_after o Count_unready) own s
+    ran (Mark (Map_own page mode) j) o own s = ran j (own_after o (Map_own page mode)) own s
+    ran (Mark (Soil page) j) o own s = ran j (own_after o (Soil page)) own s
+    ran (Mark (Clean page) j) o own s = ran j (own_after o (Clean page)) own s
+    ran (Mark (Join pages) j) o own s = ran j (own_after o (Join pages)) own s
+    ran (Mark (Count tally) j) o own s = ran j (own_after o (Count tally)) own s
+    ran (Mark (Happen moment) j) o own s = ran j (own_after o (Happen moment)) own s
     ran (Mark (Append e) j) o own s =
         let f = paid o e own.own own.held s.0 in
         let few : many (o.trace ++ e ∷ []) ≤ u.limits.turns = omega (arith, many-push o.trace e, pays_few u o a x e own.few s.0) in

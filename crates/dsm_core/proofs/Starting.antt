@@ -1,18 +1,18 @@
 -- The words at the start, seen by items.
-use Rattle.std.proofs.Common.{◌≡◌, ℕ, zero, suc, ◌+◌, ◌-◌, ◌*◌, ◌/◌, ◌<◌, ◌≤◌, ◌==◌, if◌then◌else◌, List, [], ◌∷◌, ◌++◌, length, get_or, replicate, refl, ap, ◌∙◌, arith, length-append}
+use Rattle.std.proofs.Common.{◌≡◌, ℕ, zero, suc, ◌+◌, ◌-◌, ◌*◌, ◌<◌, ◌≤◌, List, [], ◌∷◌, ◌++◌, length, get_or, replicate, refl, ap, ◌∙◌, arith, length-append}
 use Rattle.std.specs.Prelude.{flat_map, Option}
 use Rattle.std.specs.List.{range_with_len}
 use Rattle.std.proofs.lemmas.List.FromFn.{length-map-range_with_len, get_or-map-range_with_len}
 use Rattle.dsm_machine.specs.Processors.{new_processor}
-use Rattle.std.proofs.lemmas.Nat.{mul-add-lt, div-mul-add}
+use Rattle.std.proofs.lemmas.Nat.{mul-add-lt}
 use Rattle.std.proofs.lemmas.List.{get_or-append_right, get_or_append_left, length-replicate, get_or-replicate}
 use Rattle.std.proofs.Math.Nat.{mul_comm}
 use Rattle.dsm_words.specs.declared.item.Item.{Item}
-use Rattle.dsm_words.specs.declared.item.Item.TheVariants.{Stop, Frame, Twin, Twined, Map, Dir, Update, Flush, Notice, Clock, Turn, NoticeTurn, Global, Own, Nle, Lock, Barrier, Flag, Close}
+use Rattle.dsm_words.specs.declared.item.Item.TheVariants.{Stop, Frame, Twin, Twined, Map, Dir, Update, Flush, Notice, Clock, Turn, NoticeTurn, Global, Own, Nle, Lock, Barrier, Flag, Close, Home}
 use Rattle.dsm_words.specs.Place.{IsWithin, sizes, start, place, total}
 use Rattle.dsm_words.specs.Words.{word}
 use Rattle.dsm_words.proofs.PlaceLaws.{offset_below}
-use Rattle.dsm_core.specs.Setups.{Setup, lay_in, who_at, home_of, initial, first_frames, first_words, first_value}
+use Rattle.dsm_core.specs.Setups.{Setup, lay_in, who_at, initial, frames_of, first_words, first_value}
 use Rattle.dsm_core.specs.Clusters.{Cluster, Event, start as start_of, after_loose, after_all_loose}
 use Rattle.dsm_core.specs.Laws.{StartsByItems, EveryStateIsWhole}
 use Rattle.dsm_core.proofs.Events.{keeps_lengths}
@@ -89,8 +89,11 @@ module _ (s : Setup) where
   abbrev sums : List ℕ
   sums = sizes (lay_in s)
 
+  abbrev frames_at : ℕ → List ℕ
+  frames_at n = frames_of (lay_in s) s.program.init
+
   abbrev frames : List ℕ
-  frames = flat_map (first_frames s) (range_with_len 0 s.nodes)
+  frames = flat_map frames_at (range_with_len 0 s.nodes)
 
   abbrev gap : ℕ
   gap = start sums 9 - start sums 2
@@ -100,28 +103,28 @@ module _ (s : Setup) where
 
   -- the value of word w of node n's frames
   abbrev frame_value : ℕ → ℕ → ℕ
-  frame_value n w = if n == home_of s (w / words) then initial s.program.init w else 0
+  frame_value n w = initial s.program.init w
 
-  each : (n : ℕ) → length (first_frames s n) ≡ pages * words
+  each : (n : ℕ) → length (frames_at n) ≡ pages * words
   each n = length-map-range_with_len (frame_value n) 0 (pages * words)
 
   flat : s.nodes * (pages * words) ≡ s.nodes * pages * words
   flat = grind arith
 
   length-frames : length frames ≡ s.nodes * pages * words
-  length-frames = length-pieces (first_frames s) (pages * words) each s.nodes 0 ∙ flat
+  length-frames = length-pieces frames_at (pages * words) each s.nodes 0 ∙ flat
 
   at_frames : (n g i : ℕ) → n < s.nodes → g < pages → i < words → get_or (first_words s) (suc (n * (pages * words) + (g * words + i))) 0 ≡ frame_value n (g * words + i)
   at_frames n g i a b c =
       let inside : g * words + i < pages * words = rw (mul_comm pages words) (mul-add-lt g words i pages b c) in
       let below : n * (pages * words) + (g * words + i) < length frames =
       let z : n * (pages * words) + (g * words + i) < s.nodes * (pages * words) = rw (mul_comm s.nodes (pages * words)) (mul-add-lt n (pages * words) (g * words + i) s.nodes a inside) in
-      rw (length-pieces (first_frames s) (pages * words) each s.nodes 0) z in
+      rw (length-pieces frames_at (pages * words) each s.nodes 0) z in
       let p : 0 + n ≡ n = omega arith in
       let q : 0 + (g * words + i) ≡ g * words + i = omega arith in
       get_or_append_left frames (tail gap s.nodes rest) 0 (n * (pages * words) + (g * words + i)) below
-      ∙ get_or-pieces (first_frames s) (pages * words) each s.nodes 0 n (g * words + i) a inside
-      ∙ ap (λ m. get_or (first_frames s m) (g * words + i) 0) p
+      ∙ get_or-pieces frames_at (pages * words) each s.nodes 0 n (g * words + i) a inside
+      ∙ ap (λ m. get_or (frames_at m) (g * words + i) 0) p
       ∙ get_or-map-range_with_len (frame_value n) 0 (pages * words) (g * words + i) (g * words + i) 0 inside q
 
   at_tail : (k : ℕ) → get_or (first_words s) (suc (s.nodes * pages * words + k)) 0 ≡ get_or (tail gap s.nodes rest) k 0
@@ -155,7 +158,6 @@ module _ (s : Setup) where
       let is : place (lay_in s) (Frame n g i) ≡ suc (n * (pages * words) + (g * words + i)) = grind arith in
       ap (λ k. get_or (first_words s) k 0) is
       ∙ at_frames n g i w.0 w.1 w.2
-      ∙ ap (λ h. if n == home_of s h then initial s.program.init (g * words + i) else 0) (div-mul-add g words i w.2)
   starts (Twin n g i) w = before_clocks (place (lay_in s) (Twin n g i)) (omega arith) (omega (arith, offset_below (lay_in s) (Twin n g i) w))
   starts (Twined n g) w = before_clocks (place (lay_in s) (Twined n g)) (omega arith) (omega (arith, offset_below (lay_in s) (Twined n g) w))
   starts (Map p g) w = before_clocks (place (lay_in s) (Map p g)) (omega arith) (omega (arith, offset_below (lay_in s) (Map p g) w))
@@ -164,7 +166,7 @@ module _ (s : Setup) where
   starts (Flush n g) w = before_clocks (place (lay_in s) (Flush n g)) (omega arith) (omega (arith, offset_below (lay_in s) (Flush n g) w))
   starts (Notice n g) w = before_clocks (place (lay_in s) (Notice n g)) (omega arith) (omega (arith, offset_below (lay_in s) (Notice n g) w))
   starts (Clock n) w = at_clocks n w
-  starts (Turn g) w = behind_clocks (place (lay_in s) (Turn g)) (omega arith)
+  starts (Turn n g) w = behind_clocks (place (lay_in s) (Turn n g)) (omega arith)
   starts (NoticeTurn n) w = behind_clocks (place (lay_in s) (NoticeTurn n)) (omega arith)
   starts (Global n m k) w = behind_clocks (place (lay_in s) (Global n m k)) (omega arith)
   starts (Own p k) w = behind_clocks (place (lay_in s) (Own p k)) (omega arith)
@@ -173,6 +175,7 @@ module _ (s : Setup) where
   starts (Barrier b) w = behind_clocks (place (lay_in s) (Barrier b)) (omega arith)
   starts (Flag f) w = behind_clocks (place (lay_in s) (Flag f)) (omega arith)
   starts Close w = behind_clocks (place (lay_in s) Close) (omega arith)
+  starts (Home g) w = behind_clocks (place (lay_in s) (Home g)) (omega arith)
 
 pub starts_by_items : StartsByItems
 unfolding word start_of

@@ -1,6 +1,6 @@
 -- The stop word names a processor that told all others to stop, and whoever is stopped is stopped by such a one.
-use Rattle.std.proofs.Common.{◌≡◌, ◌≢◌, ◌⊎◌, inl, inr, ℕ, zero, suc, ◌+◌, ◌-◌, ◌*◌, ◌%◌, ◌^◌, ◌<◌, Bool, true, false, List, [], ◌∷◌, length, Option, Some, None, refl, sym, ap, ◌∙◌, subst, arith, if◌then◌else◌, ◌==◌, ◌||◌, length-set}
-use Rattle.std.specs.Prelude.{slice_get, slice_set, slice_index, is_some}
+use Rattle.std.proofs.Common.{◌≡◌, ◌≢◌, ◌⊎◌, inl, inr, ℕ, zero, suc, ◌+◌, ◌-◌, ◌*◌, ◌%◌, ◌^◌, ◌<◌, Bool, true, false, List, [], ◌∷◌, length, Option, Some, None, refl, sym, ap, ◌∙◌, subst, arith, if◌then◌else◌, ◌==◌, length-set}
+use Rattle.std.specs.Prelude.{slice_get, slice_set, slice_index}
 use Rattle.std.proofs.Math.Nat.{mod-eq_of_lt}
 use Rattle.std.proofs.lemmas.Bool.{cases_eq, ne_eqb}
 use Rattle.std.proofs.lemmas.List.{get_or-set_same, get_or-set_other}
@@ -13,11 +13,12 @@ use Rattle.dsm_words.proofs.WordLaws.{length-done}
 use Rattle.dsm_local.specs.declared.end.End.{End as Ending}
 use Rattle.dsm_local.specs.declared.end.End.TheVariants.{Stopped, NoMemory}
 use Rattle.dsm_machine.specs.Own.{Who, new_own}
-use Rattle.dsm_machine.specs.Jobs.{Job, Make, Again, Mark, Ask, Begin, Ended, first_act, job_after, has_ended, end_of, held_turn, is_ready}
+use Rattle.dsm_machine.specs.Jobs.{Job, Make, Again, Mark, Ask, Begin, Ended, first_act, job_after, has_ended, end_of, is_ready}
 use Rattle.dsm_machine.specs.declared.head.Head.TheVariants.{Instruction}
 use Rattle.dsm_machine.specs.Processors.{Processor, wanting, after_answer, run_on, new_processor}
 use Rattle.dsm_core.specs.Setups.{Setup, lay_in, who_at}
 use Rattle.dsm_core.specs.Clusters.{Cluster, Event, stays, start, answer, act_in, moved, after_loose, after_all_loose}
+use Rattle.dsm_core.proofs.Alive.{alive, wanting_is}
 use Rattle.dsm_core.specs.Stopping.{TellsAll, HasToldAll, StopWordNames, EveryStopIsTold, EveryStoppedIsTold}
 use Rattle.dsm_core.proofs.Lists.{slice_get-set_same, slice_get-set_other, slice_get-map-range_with_len, some_one}
 use Rattle.dsm_core.proofs.Events.{by_cases}
@@ -137,21 +138,12 @@ module _ (s : Setup) (few : s.nodes * s.procs < 2 ^ 32) where
     abbrev next : Cluster
     next = moved s c e any m
 
-    -- it had not ended
-    alive : (b : Bool) → stays b m.todo ≡ false → has_ended m.todo ≡ false
-    alive false g = g
-    alive true g = go (has_ended m.todo) g
-      where
-        go : (d : Bool) → (d || is_some (held_turn m.todo)) ≡ false → d ≡ false
-        go true h = absurd (cc h)
-        go false h = refl
-
     open_heeds : (j : Job) → has_ended j ≡ false → IsStoppedWell c e.p j → Heeds e.p None j
     open_heeds (Ended x) g h = absurd (cc g)
     open_heeds j g h = h
 
     before_heeds : (b : Bool) → stays b m.todo ≡ false → Heeds e.p None (wanting u b m).todo
-    before_heeds true g = stop_heeds u None NoMemory tt
+    before_heeds true g = subst (λ n. Heeds e.p None n.todo) (sym (wanting_is u m (alive true m.todo g))) (stop_heeds u None NoMemory tt)
     before_heeds false g = open_heeds m.todo g (fine.each e.p m here)
 
     -- one that has told all has ended, and stays as it is
@@ -162,7 +154,7 @@ module _ (s : Setup) (few : s.nodes * s.procs < 2 ^ 32) where
         go (inl q) =
             let same : h.0 ≡ m = some_one h.0 m (sym h.2 ∙ ap (slice_get c.processors) q ∙ here) in
             let over : m.todo ≡ Ended h.1 = sym (ap (λ x. x.todo) same) ∙ h.3 in
-            absurd (cc (sym (ap has_ended over) ∙ alive e.starved goes))
+            absurd (cc (sym (ap has_ended over) ∙ alive e.starved m.todo goes))
         go (inr ne) = (h.0, h.1, slice_get-set_other c.processors e.p b new ne ∙ h.2, h.3, h.4)
 
     names_same : word (lay_in s) next.words Stop ≡ word (lay_in s) c.words Stop → StopWordNames s next

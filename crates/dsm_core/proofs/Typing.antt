@@ -1,5 +1,5 @@
 -- What each operation of a processor, with its answer, leaves in its trace.
-use Rattle.std.proofs.Common.{◌≡◌, ℕ, ◌==◌, Bool, true, false, List, [], ◌∷◌, ◌++◌, refl, sym, ap, ◌∙◌, if◌then◌else◌, append_assoc}
+use Rattle.std.proofs.Common.{◌≡◌, ℕ, ◌==◌, Bool, true, false, List, [], ◌∷◌, ◌++◌, refl, sym, ap, subst, ◌∙◌, if◌then◌else◌, append_assoc}
 use Rattle.std.proofs.lemmas.List.{append-nil}
 use Rattle.dsm_isa.specs.declared.instr.Instr.{Instr}
 use Rattle.dsm_entry.specs.declared.entry.Entry.{Entry}
@@ -7,10 +7,11 @@ use Rattle.dsm_words.specs.Script.{Act}
 use Rattle.dsm_machine.specs.declared.head.Head.{Head}
 use Rattle.dsm_machine.specs.declared.head.Head.TheVariants.{Instruction}
 use Rattle.dsm_machine.specs.Own.{Own, Who, new_own}
-use Rattle.dsm_machine.specs.Jobs.{Note, Give, Go, Move, Append, Count_unready, Job, Make, Again, Mark, Ask, Begin, Ended, own_after, first_act, job_after, has_ended}
+use Rattle.dsm_machine.specs.Jobs.{Note, Give, Go, Move, Append, Map_own, Soil, Clean, Join, Count, Happen, Job, Make, Again, Mark, Ask, Begin, Ended, own_after, first_act, job_after, has_ended}
 use Rattle.dsm_machine.specs.Steps.{head_job, starved_job}
 use Rattle.dsm_machine.specs.Processors.{processor_of, Processor, Given, settled, run_on, new_processor, wanting, after_given}
 use Rattle.dsm_core.specs.Clusters.{stays}
+use Rattle.dsm_core.proofs.Alive.{alive, wanting_is}
 use Rattle.dsm_core.proofs.Histories.{head_own}
 
 -- the entries of an event, with those of this change
@@ -23,7 +24,12 @@ trace_after t es o (Give d v) is = is
 trace_after t es o (Go to) is = is
 trace_after t es o Move is = is
 trace_after t es o (Append e) is = ap (λ x. x ++ e ∷ []) is ∙ append_assoc t es (e ∷ [])
-trace_after t es o Count_unready is = is
+trace_after t es o (Map_own page mode) is = is
+trace_after t es o (Soil page) is = is
+trace_after t es o (Clean page) is = is
+trace_after t es o (Join pages) is = is
+trace_after t es o (Count tally) is = is
+trace_after t es o (Happen moment) is = is
 
 -- A rule for processors that are at some stage: `Allows` says, of an operation and its answer, which entries it may leave and which stage
 -- is next, and `Comes` which head may begin at a stage.
@@ -87,7 +93,9 @@ module _ {Stage : Type 0} (Allows : Stage → Act → ℕ → List Entry → Sta
     event_step i m g h goes = go g.starved goes
       where
         go : (b : Bool) → stays b m.todo ≡ false → Step i (first_act (wanting u b m).todo) g.got m.own.trace (run_on u code (wanting u b m).own (job_after (wanting u b m).todo g.got))
-        go true is = answered m.own (starved_job u) i g.got (rule.starved i m.own) refl
+        go true is =
+            subst (λ n. Step i (first_act n.todo) g.got m.own.trace (run_on u code n.own (job_after n.todo g.got))) (sym (wanting_is u m (alive true m.todo is)))
+            (answered m.own (starved_job u) i g.got (rule.starved i m.own) refl)
         go false is = answered m.own m.todo i g.got h is
 
     -- one that has done nothing
@@ -109,7 +117,11 @@ module _ {Stage : Type 0} (Allows : Stage → Act → ℕ → List Entry → Sta
         told o (Begin b) s = absurd s
 
         go : (b : Bool) → (n : Stage) × StandsAt n (run_on u code (wanting u b m).own (job_after (wanting u b m).todo g.got))
-        go true = told m.own (starved_job u) (rule.starved i m.own)
+        go true = wants (has_ended m.todo)
+          where
+            wants : (b : Bool) → (let t = if b then m.todo else starved_job u in (n : Stage) × StandsAt n (run_on u code m.own (job_after t g.got)))
+            wants true = told m.own m.todo h
+            wants false = told m.own (starved_job u) (rule.starved i m.own)
         go false = told m.own m.todo h
 
     -- whatever it was given, a processor stands

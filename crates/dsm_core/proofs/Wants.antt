@@ -1,6 +1,6 @@
 -- A processor ends for want of memory exactly where it was starved.
-use Rattle.std.proofs.Common.{◌≡◌, ◌⊎◌, inl, inr, ℕ, zero, suc, ◌+◌, ◌-◌, ◌*◌, ◌/◌, ◌%◌, ◌^◌, ◌<◌, ◌==◌, Bool, true, false, List, [], ◌∷◌, length, Some, None, refl, sym, ap, ◌∙◌, subst, arith, if◌then◌else◌, ◌||◌}
-use Rattle.std.specs.Prelude.{slice_get, nat_le, Contains, is_some, slice_index_or}
+use Rattle.std.proofs.Common.{◌≡◌, ◌⊎◌, inl, inr, ℕ, zero, suc, ◌+◌, ◌-◌, ◌*◌, ◌/◌, ◌%◌, ◌^◌, ◌<◌, ◌==◌, Bool, true, false, List, [], ◌∷◌, length, Some, None, refl, sym, ap, ◌∙◌, subst, arith, if◌then◌else◌}
+use Rattle.std.specs.Prelude.{slice_get, nat_le, Contains, slice_index_or}
 use Rattle.std.proofs.lemmas.Bool.{cases_eq}
 use Rattle.dsm_isa.specs.declared.instr.Instr.{Instr}
 use Rattle.dsm_local.specs.declared.action.Action.{Action}
@@ -17,7 +17,7 @@ use Rattle.dsm_sync.specs.declared.counter.Counter.TheVariants.{Barrier, Flag, C
 use Rattle.dsm_local.specs.declared.end.End.{End as Ending}
 use Rattle.dsm_local.specs.declared.end.End.TheVariants.{Looked, Stopped, NoMemory}
 use Rattle.dsm_machine.specs.Own.{Own, Who, setting_of, new_own}
-use Rattle.dsm_machine.specs.Jobs.{Job, Make, Again, Mark, Ask, Begin, Ended, own_after, job_after, call, has_ended, end_of, held_turn}
+use Rattle.dsm_machine.specs.Jobs.{Job, Make, Again, Mark, Ask, Begin, Ended, own_after, job_after, call, has_ended, end_of}
 use Rattle.dsm_machine.specs.declared.head.Head.{Head}
 use Rattle.dsm_machine.specs.declared.head.Head.TheVariants.{Instruction, Locking, Looking}
 use Rattle.dsm_machine.specs.Steps.{action_job, stop_job, head_job, unready_job, heed_job, look_job, lock_job, is_last, passed_job, tried_job, looked_job}
@@ -25,6 +25,7 @@ use Rattle.dsm_machine.specs.Processors.{Processor, settled, run_on, ending, aft
 use Rattle.dsm_words.specs.Words.{reply}
 use Rattle.dsm_core.specs.Setups.{Setup, lay_in, who_at}
 use Rattle.dsm_core.specs.Clusters.{Cluster, Event, stays, start, answer, act_in, moved, after_event, after, is_defined, all_defined, reached}
+use Rattle.dsm_core.proofs.Alive.{alive, wanting_is}
 use Rattle.dsm_core.proofs.Lists.{slice_get-set_same, slice_get-set_other, slice_get-map-range_with_len, some_one}
 use Rattle.dsm_core.proofs.Runs.{event_is, defined_is, defined_both}
 use Rattle.dsm_core.specs.Wanting.{EveryWantIsStarved}
@@ -168,19 +169,8 @@ module _ (s : Setup) where
     abbrev new : Bool → Processor
     new b = after_answer u s.program.code (wanting u b m) got
 
-    alive : has_ended m.todo ≡ false
-    alive = go e.starved goes
-      where
-        over : (d : Bool) → (d || is_some (held_turn m.todo)) ≡ false → d ≡ false
-        over true h = absurd (cc h)
-        over false h = refl
-
-        go : (b : Bool) → stays b m.todo ≡ false → has_ended m.todo ≡ false
-        go true g = over (has_ended m.todo) g
-        go false g = g
-
     is_not : m.todo ≡ Ended NoMemory → ⊥
-    is_not is = absurd (cc (sym alive ∙ ap has_ended is))
+    is_not is = absurd (cc (sym (alive e.starved m.todo goes) ∙ ap has_ended is))
 
     wants : WantsNothing m.todo
     wants = go (either e.p m here)
@@ -192,8 +182,12 @@ module _ (s : Setup) where
     new_wants : WantsNothing (new false).todo
     new_wants = run_wants u s.program.code (job_after m.todo got) m.own (after_wants m.todo got wants)
 
+    -- one that is starved ends
+    new_ended : (new true).todo ≡ Ended NoMemory
+    new_ended = ap (λ n. (after_answer u s.program.code n got).todo) (wanting_is u m (alive e.starved m.todo goes))
+
     new_either : (b : Bool) → WantsNothing (new b).todo ⊎ ((new b).todo ≡ Ended NoMemory)
-    new_either true = inr refl
+    new_either true = inr new_ended
     new_either false = inl new_wants
 
     moved_either : IsEither (moved s c e None m)
@@ -229,7 +223,7 @@ module _ (s : Setup) where
         go (inr ne) = (h.0, slice_get-set_other c.processors e.p p (new e.starved) ne ∙ h.1, h.2)
     wanting_on p (inr is) =
         let there : slice_get (moved s c e None m).processors p ≡ Some (new e.starved) = ap (slice_get (moved s c e None m).processors) (sym (ap (λ x. x.p) is)) ∙ slice_get-set_same c.processors e.p m (new e.starved) here in
-        (new e.starved, there, ap (λ b. (new b).todo) (ap (λ x. x.starved) is))
+        (new e.starved, there, ap (λ b. (new b).todo) (ap (λ x. x.starved) is) ∙ new_ended)
 
   event_either : (c : Cluster) (e : Event) → IsEither c → is_defined c e ≡ true → IsEither (after_event s c e)
   event_either c e either is =

@@ -1,9 +1,10 @@
 -- The small runs, computed.
 use Rattle.std.proofs.Common.{refl}
 use Rattle.dsm_words.specs.Words.{word, done, reply}
-use Rattle.dsm_core.specs.Clusters.{start, reached, after, after_loose, after_all_loose, all_defined}
+use Rattle.dsm_core.specs.Clusters.{start, reached, after, after_loose, after_all_loose, given_behind, all_defined}
+use Rattle.dsm_core.specs.Moments.{history}
 use Rattle.dsm_machine.specs.Processors.{processor_of}
-use Rattle.dsm_core.specs.Examples.{Arrives, Halts, NearlyHalts, StoresAndLoads, LocksInTurn, LockWordCounts, LooksAtALock, MeetTwice, PassesAtTheThirdLook, BothLook, StoppedByATrap, TrapsAtOnce, UnlocksOnce, StoppedByAStarved, SpendsTwo, NoneBehindTheEnd, LoadsLoosely, IsWhatItWasGiven, Starts}
+use Rattle.dsm_core.specs.Examples.{Arrives, Halts, NearlyHalts, StoresAndLoads, LocksInTurn, LockWordCounts, LooksAtALock, MeetTwice, PassesAtTheThirdLook, BothLook, StoppedByATrap, TrapsAtOnce, UnlocksOnce, StoppedByAStarved, SpendsTwo, NoneBehindTheEnd, LoadsLoosely, IsWhatItWasGiven, Starts, PassesAndAcquires, GivesEachItsOwn}
 
 pub arrives : Arrives
 unfolding start reached after all_defined after_loose done reply word
@@ -80,3 +81,11 @@ is_what_it_was_given = (refl, refl, refl, refl, refl)
 pub starts : Starts
 unfolding word
 starts = (refl, refl, refl)
+
+pub passes_and_acquires : PassesAndAcquires
+unfolding start history after_loose done reply
+passes_and_acquires = refl
+
+pub gives_each_its_own : GivesEachItsOwn
+unfolding start given_behind after_loose done reply
+gives_each_its_own = (refl, refl)

@@ -7,14 +7,16 @@ use Rattle.dsm_isa.specs.declared.instr.Instr.{Instr}
 use Rattle.dsm_isa.specs.declared.instr.Instr.TheVariants.{Li, Me, Div, Addi, Ld, St, Jmp, Bne, Lock, Unlock, Bar, Set, Wait, Out as Print, Halt}
 use Rattle.dsm_local.specs.declared.end.Trap.TheVariants.{Address, NotHeld, DivideByZero}
 use Rattle.dsm_words.specs.declared.op.Op.TheVariants.{Load as LoadAt, Exchange}
-use Rattle.dsm_words.specs.declared.item.Item.TheVariants.{Stop, Frame, Notice, Clock, Turn, Lock as LockWord}
+use Rattle.dsm_words.specs.declared.item.Item.TheVariants.{Stop, Frame, Notice, Clock, Turn, Home, Lock as LockWord}
 use Rattle.dsm_words.specs.Place.{total}
 use Rattle.dsm_words.specs.Words.{word}
 use Rattle.dsm_local.specs.declared.end.End.TheVariants.{Halted, Trapped, Spent, Looked, Stopped, NoMemory}
 use Rattle.dsm_machine.specs.Own.{no_counts}
+use Rattle.dsm_machine.specs.Jobs.{Passed, Acquired}
 use Rattle.dsm_machine.specs.Processors.{Given, next_op, ending, processor_of}
 use Rattle.dsm_core.specs.Setups.{Setup, lay_in, who_at, first_words}
-use Rattle.dsm_core.specs.Clusters.{Event, start, after_all_loose, all_defined, reached}
+use Rattle.dsm_core.specs.Clusters.{Event, start, exactly, after_all_loose, given_by, all_defined, reached}
+use Rattle.dsm_core.specs.Moments.{history}
 use Rattle.dsm_core.specs.Outcomes.{Outcome}
 
 -- so many processors of one node, on a page of so many words, with one lock, one barrier and one flag
@@ -180,12 +182,28 @@ IsWhatItWasGiven =
     × ((processor_of (who_at dividing 0) (Wait 0 2 ∷ []) (told (3 ∷ 0 ∷ 1 ∷ []))).own.trace ≡ Pass (OfFlag 0) 3 ∷ [])
     × (next_op (who_at dividing 0) (processor_of (who_at dividing 0) (Unlock 0 ∷ []) []) ≡ Some (Exchange 0 0 1))
 
--- At the start of two nodes with two pages of one word, each page has its values at its home alone, and the clocks are 1.
+-- The history of the run in which two processors take a lock in turn: each passes the lock and has then finished its acquire, and processor 1 is
+-- the first to pass the closing barrier.
+abbrev pub PassesAndAcquires : Type 0
+PassesAndAcquires = history adding (start adding) (map exactly (of_all (in_turn 13 ++ 0 ∷ []))) ≡ Passed 0 ∷ Acquired 0 ∷ Passed 1 ∷ Acquired 1 ∷ Passed 1 ∷ Passed 0 ∷ []
+
+-- What the events gave, where processor 1 is starved before its arrival: processor 0 was given the number of its arrival, that of the arrivals it
+-- then found, and the stop word; processor 1 was starved, and found the stop word as 0.
+abbrev pub halting : Setup
+halting = node 2 1 (Halt ∷ [])
+
+abbrev pub GivesEachItsOwn : Type 0
+GivesEachItsOwn =
+    let events = map exactly (of_all (0 ∷ []) ++ starved 1 ∷ of_all (0 ∷ 0 ∷ [])) in
+    (given_by halting events 0 ≡ told (2 ∷ 1 ∷ 0 ∷ []))
+    × (given_by halting events 1 ≡ record { starved = true; got = 0 } ∷ [])
+
+-- At the start of two nodes with two pages of one word, each node has the program's values, the clocks are 1, and no page has a home.
 abbrev pub two_nodes : Setup
 two_nodes = record { program = record { shape = record { pages = 2; words = 1; locks = 1; barriers = 1; flags = 1 }; init = (0, 5) ∷ (1, 6) ∷ []; code = [] }; nodes = 2; procs = 1; limits = record { turns = 1; looks = None } }
 
 abbrev pub Starts : Type 0
 Starts =
     (length (first_words two_nodes) ≡ total (lay_in two_nodes))
-    × (map (word (lay_in two_nodes) (first_words two_nodes)) (Frame 0 0 0 ∷ Frame 0 1 0 ∷ Frame 1 0 0 ∷ Frame 1 1 0 ∷ []) ≡ 5 ∷ 0 ∷ 0 ∷ 6 ∷ [])
-    × (map (word (lay_in two_nodes) (first_words two_nodes)) (Stop ∷ Notice 1 1 ∷ Clock 0 ∷ Clock 1 ∷ Turn 0 ∷ []) ≡ 0 ∷ 0 ∷ 1 ∷ 1 ∷ 0 ∷ [])
+    × (map (word (lay_in two_nodes) (first_words two_nodes)) (Frame 0 0 0 ∷ Frame 0 1 0 ∷ Frame 1 0 0 ∷ Frame 1 1 0 ∷ []) ≡ 5 ∷ 6 ∷ 5 ∷ 6 ∷ [])
+    × (map (word (lay_in two_nodes) (first_words two_nodes)) (Stop ∷ Notice 1 1 ∷ Clock 0 ∷ Clock 1 ∷ Turn 0 0 ∷ Home 1 ∷ []) ≡ 0 ∷ 0 ∷ 1 ∷ 1 ∷ 0 ∷ 0 ∷ [])

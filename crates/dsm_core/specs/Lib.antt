@@ -2,6 +2,7 @@ pub mod Clusters
 pub mod Examples
 pub mod Laws
 pub mod Legality
+pub mod Moments
 pub mod Outcomes
 pub mod Promises
 pub mod Setups

@@ -1,14 +1,13 @@
 -- What a run leaves.
-use Rattle.std.specs.Prelude.{◌≡◌, ℕ, ◌/◌, ◌%◌, ◌^◌, List, map, sum_by, Option, Some, All, Contains}
+use Rattle.std.specs.Prelude.{◌≡◌, ℕ, ◌%◌, ◌^◌, List, map, sum_by, Option, Some, All, Contains}
 use Rattle.dsm_entry.specs.declared.entry.Entry.{Entry}
-use Rattle.dsm_words.specs.declared.item.Item.{Item}
-use Rattle.dsm_words.specs.declared.item.Item.TheVariants.{Frame}
+use Rattle.dsm_words.specs.Homes.{master}
 use Rattle.dsm_words.specs.Words.{word}
 use Rattle.dsm_local.specs.declared.end.End.{End as Ending}
 use Rattle.dsm_local.specs.declared.end.End.TheVariants.{Halted, NoMemory}
 use Rattle.dsm_machine.specs.declared.counts.Counts.{Counts}
 use Rattle.dsm_machine.specs.Processors.{Processor, ending}
-use Rattle.dsm_core.specs.Setups.{Setup, lay_in, addresses, home_of}
+use Rattle.dsm_core.specs.Setups.{Setup, lay_in, addresses}
 use Rattle.dsm_core.specs.Clusters.{Cluster, Event, AreDefined, reached}
 
 -- the traces, the ends (none where a processor has not ended), the words of the memory as their homes have them, and the counts
@@ -25,10 +24,6 @@ AllHalted ends = All (λ e. e ≡ Some Halted) ends
 -- some processor ended for want of memory
 abbrev pub SomeWants : List (Option Ending) → Type 0
 SomeWants ends = Contains ends (Some NoMemory)
-
--- the word of address w at the home of its page
-abbrev pub master : Setup → ℕ → Item
-master s w = Frame (home_of s (w / s.program.shape.words)) (w / s.program.shape.words) (w % s.program.shape.words)
 
 -- a count of all processors together
 abbrev pub total_of : (Counts → ℕ) → List Processor → ℕ
@@ -54,7 +49,13 @@ total_counts ps =
 
 -- what a state leaves
 abbrev pub ran_of : Setup → Cluster → Ran
-ran_of s c = record { traces = map (λ m. m.own.trace) c.processors; ends = map ending c.processors; pages = map (λ w. word (lay_in s) c.words (master s w)) (addresses s); counts = total_counts c.processors }
+ran_of s c =
+    record {
+      traces = map (λ m. m.own.trace) c.processors;
+      ends = map ending c.processors;
+      pages = map (λ w. word (lay_in s) c.words (master (lay_in s) c.words w)) (addresses s);
+      counts = total_counts c.processors;
+    }
 
 -- The list of events can be from the start on, and the state behind it leaves exactly this.
 pub record Outcome (s : Setup) (events : List Event) (ran : Ran) : Type 0 where

@@ -19,8 +19,18 @@ AllLocal s ran = (p : ℕ) (trace : List Entry) (end : Option End) → slice_get
 abbrev pub AllTold : Ran → Type 0
 AllTold ran = (p b : ℕ) → slice_get ran.ends p ≡ Some (Some (Stopped b)) → (e : End) × (slice_get ran.ends b ≡ Some (Some e)) × TellsAll e
 
--- Word w is as a flat memory has it, which knows no page, no node and no copy.
-pub record IsFlatWord (s : Setup) (ran : Ran) (w : ℕ) : Type 0 where
+-- each processor does what its program says; synchronisation is legal, and nothing is before itself
+pub record Promises (s : Setup) (ran : Ran) : Type 0 where
+  pub local : AllLocal s ran
+  pub told : AllTold ran
+  pub legal : SyncLegal ran.traces (s.nodes * s.procs)
+
+-- they hold of what any list of events leaves, so at every step of every interleaving
+abbrev pub EveryRunKeepsThem : Type 0
+EveryRunKeepsThem = (s : Setup) (events : List Event) (ran : Ran) → IsSetup s → Outcome s events ran → Promises s ran
+
+-- What is promised of word w, whatever its neighbours do: the memory that this speaks of is flat, and knows no page, no node and no copy.
+pub record WordPromise (s : Setup) (ran : Ran) (w : ℕ) : Type 0 where
   -- no load returned a value that was not there
   pub sourced : Sourced ran.traces (initial s.program.init w) w
   -- if its conflicting accesses are ordered, each load of it returned the last store ordered before it,
@@ -28,15 +38,10 @@ pub record IsFlatWord (s : Setup) (ran : Ran) (w : ℕ) : Type 0 where
   -- and once all processors have halted, its home has its last store
   pub last : Ordered ran.traces w → AllHalted ran.ends → w < s.program.shape.pages * s.program.shape.words → Final ran.traces (initial s.program.init w) w (slice_index ran.pages w)
 
--- each processor does what its program says; synchronisation is legal, and nothing is before itself; on one node each word is flat;
--- and where a processor is alone, each word is ordered
-pub record Promises (s : Setup) (ran : Ran) : Type 0 where
-  pub local : AllLocal s ran
-  pub told : AllTold ran
-  pub legal : SyncLegal ran.traces (s.nodes * s.procs)
-  pub flat : s.nodes ≡ 1 → (w : ℕ) → IsFlatWord s ran w
-  pub alone : s.nodes * s.procs ≡ 1 → (w : ℕ) → Ordered ran.traces w
+-- on one node it holds of each word, of what any list of events leaves
+abbrev pub OneNodeKeepsWords : Type 0
+OneNodeKeepsWords = (s : Setup) (events : List Event) (ran : Ran) → IsSetup s → s.nodes ≡ 1 → Outcome s events ran → (w : ℕ) → WordPromise s ran w
 
--- they hold of what any list of events leaves, so at every step of every interleaving
-abbrev pub EveryRunKeepsThem : Type 0
-EveryRunKeepsThem = (s : Setup) (events : List Event) (ran : Ran) → IsSetup s → Outcome s events ran → Promises s ran
+-- where a processor is alone, each word is ordered
+abbrev pub AloneIsOrdered : Type 0
+AloneIsOrdered = (s : Setup) (events : List Event) (ran : Ran) → s.nodes * s.procs ≡ 1 → Outcome s events ran → (w : ℕ) → Ordered ran.traces w

@@ -1,5 +1,5 @@
 -- What a run starts from.
-use Rattle.std.specs.Prelude.{ℕ, ◌+◌, ◌-◌, ◌*◌, ◌/◌, ◌%◌, ◌≤◌, ◌==◌, if◌then◌else◌, List, [], ◌∷◌, ◌++◌, map, flat_map, replicate}
+use Rattle.std.specs.Prelude.{ℕ, ◌+◌, ◌-◌, ◌*◌, ◌≤◌, ◌==◌, if◌then◌else◌, List, [], ◌∷◌, ◌++◌, map, flat_map, replicate}
 use Rattle.std.specs.List.{range_with_len}
 use Rattle.dsm_isa.specs.ProgramText.{ProgramText}
 use Rattle.dsm_isa.specs.Limits.{IsWithinLimits}
@@ -39,30 +39,26 @@ who_at s p = record { lay = lay_in s; p = p; limits = s.limits }
 abbrev pub addresses : Setup → List ℕ
 addresses s = range_with_len 0 (s.program.shape.pages * s.program.shape.words)
 
--- the home of page g
-abbrev pub home_of : Setup → ℕ → ℕ
-home_of s g = g % s.nodes
-
--- the value with which word w of the memory starts
+-- the value with which address w of the memory starts
 abbrev pub initial : List (ℕ × ℕ) → ℕ → ℕ
 initial [] w = 0
 initial (x ∷ xs) w = if x.0 == w then x.1 else initial xs w
 
--- node n's frames at the start: the program's values where n is the page's home
-abbrev pub first_frames : Setup → ℕ → List ℕ
-first_frames s n = map (λ w. if n == home_of s (w / s.program.shape.words) then initial s.program.init w else 0) (addresses s)
+-- the value with which an item's word starts: the program's in the frames of every node, 1 in the clocks, and 0 elsewhere
+abbrev pub first_value : Setup → Item → ℕ
+first_value s (Frame n g i) = initial s.program.init (g * s.program.shape.words + i)
+first_value s (Clock n) = 1
+first_value s _ = 0
 
--- all words at the start, block behind block: the stop word is 0, the frames have the program's values, the clocks (block 9) are 1, and all else is 0
+-- the frames of one node with these values
+abbrev pub frames_of : Lay → List (ℕ × ℕ) → List ℕ
+frames_of l init = map (λ w. initial init w) (range_with_len 0 (l.pages * l.words))
+
+-- all words at the start, block behind block: the stop word, the frames of each node, zeros up to the clocks (block 9), the clocks, and zeros
 abbrev pub first_words : Setup → List ℕ
 first_words s =
     0
-    ∷ (flat_map (first_frames s) (range_with_len 0 s.nodes)
+    ∷ (flat_map (λ n. frames_of (lay_in s) s.program.init) (range_with_len 0 s.nodes)
     ++ (replicate (start (sizes (lay_in s)) 9 - start (sizes (lay_in s)) 2) 0
     ++ (replicate s.nodes 1
     ++ replicate (total (lay_in s) - start (sizes (lay_in s)) 10) 0)))
-
--- the value with which an item's word starts
-abbrev pub first_value : Setup → Item → ℕ
-first_value s (Frame n g i) = if n == home_of s g then initial s.program.init (g * s.program.shape.words + i) else 0
-first_value s (Clock n) = 1
-first_value s _ = 0

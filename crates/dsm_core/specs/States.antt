@@ -6,7 +6,7 @@ use Rattle.dsm_words.specs.declared.topology.Topology.{Topology}
 use Rattle.dsm_words.specs.Place.{lay_of}
 use Rattle.dsm_machine.specs.declared.limits.Limits.{Limits}
 use Rattle.dsm_machine.specs.Jobs.{has_ended}
-use Rattle.dsm_machine.specs.Machines.{processor_in}
+use Rattle.dsm_machine.specs.Machines.{processor_in, spare_of}
 use Rattle.dsm_core.specs.declared.state.State.{State}
 use Rattle.dsm_core.specs.declared.state.Step.{Step}
 use Rattle.dsm_core.specs.declared.state.Step.TheVariants.{Did, Ended, NoMemory}
@@ -40,6 +40,10 @@ HasEnded c p = IsSomeAnd (slice_get c.processors p) (λ m. IsTrue (has_ended m.t
 -- every processor has
 abbrev pub AllEnded : Cluster → Type 0
 AllEnded c = All (λ m. IsTrue (has_ended m.todo)) c.processors
+
+-- the trace of processor p has no room for an entry
+abbrev pub HasNoRoom : State → ℕ → Type 0
+HasNoRoom st p = IsSomeAnd (slice_get st.machines.items p) (λ m. spare_of m ≡ 0)
 
 -- what one step of processor p may do: its next event; that event without memory; or nothing, where it has ended
 abbrev pub Stepped : Setup → Cluster → Cluster → ℕ → Step → Type 0

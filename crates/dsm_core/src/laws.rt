@@ -3,8 +3,8 @@ ghost use Rattle.dsm_core.specs.Laws.{StartsByItems, EveryStateIsWhole, LeavesOt
 ghost use Rattle.dsm_core.specs.Stopping.{EveryStopIsTold, EveryStoppedIsTold};
 ghost use Rattle.dsm_core.specs.Wanting.{EveryWantIsStarved};
 ghost use Rattle.dsm_core.specs.Legality.{EverySyncIsLegal};
-ghost use Rattle.dsm_core.specs.Promises.{EveryRunKeepsThem};
-ghost use Rattle.dsm_core.specs.Examples.{Arrives, Halts, NearlyHalts, StoresAndLoads, LocksInTurn, LockWordCounts, LooksAtALock, MeetTwice, PassesAtTheThirdLook, BothLook, StoppedByATrap, TrapsAtOnce, UnlocksOnce, StoppedByAStarved, SpendsTwo, NoneBehindTheEnd, LoadsLoosely, IsWhatItWasGiven, Starts};
+ghost use Rattle.dsm_core.specs.Promises.{EveryRunKeepsThem, OneNodeKeepsWords, AloneIsOrdered};
+ghost use Rattle.dsm_core.specs.Examples.{Arrives, Halts, NearlyHalts, StoresAndLoads, LocksInTurn, LockWordCounts, LooksAtALock, MeetTwice, PassesAtTheThirdLook, BothLook, StoppedByATrap, TrapsAtOnce, UnlocksOnce, StoppedByAStarved, SpendsTwo, NoneBehindTheEnd, LoadsLoosely, IsWhatItWasGiven, Starts, PassesAndAcquires, GivesEachItsOwn};
 
 /// What holds of every state, and what one event changes. It does nothing: its clauses are what it is for.
 pub fn core_law()
@@ -20,7 +20,7 @@ pub fn core_law()
     ensures words { LeavesOtherWords }
     // There are as many of both as before.
     ensures lengths { KeepsLengths }
-    // A processor is a function of what it was given, whatever the others did.
+    // A processor is a function of what the events gave it, whatever the others did.
     ensures given { EveryProcessorIsGiven }
     // One that has not ended stands before an operation.
     ensures ready { EveryProcessorIsReady }
@@ -48,12 +48,21 @@ pub fn sync_law()
     ensures { EverySyncIsLegal }
 {}
 
-/// What is promised of every run, the headline on one node among it. It does nothing: its clauses are what it is for.
-pub fn one_node_law()
-    // It holds of what any list of events leaves, and so at every step of every interleaving.
+/// What is promised of every run of every cluster. It does nothing: its clauses are what it is for.
+pub fn run_law()
+    // Each processor did what its program says, and synchronisation was legal. It holds of what any list of events leaves,
+    // and so at every step of every interleaving.
     ensures runs { EveryRunKeepsThem }
     // And no event changes another processor's mapping.
     ensures mappings { LeavesOtherMappings }
+{}
+
+/// The headline on one node. It does nothing: its clauses are what it is for.
+pub fn one_node_law()
+    // What is promised of a word holds of each, of what any list of events leaves.
+    ensures words { OneNodeKeepsWords }
+    // Where a processor is alone, each word is ordered.
+    ensures alone { AloneIsOrdered }
 {}
 
 /// Small runs, each with what it leaves. It does nothing: its clauses are what it is for.
@@ -94,6 +103,10 @@ pub fn core_examples()
     ensures loose { LoadsLoosely }
     // A processor is what it was given.
     ensures alone { IsWhatItWasGiven }
-    // The words start at the homes.
+    // The words start with the program's values at every node.
     ensures starts { Starts }
+    // The history of a run has its passes and acquires.
+    ensures history { PassesAndAcquires }
+    // What each processor was given is read off the events.
+    ensures given { GivesEachItsOwn }
 {}

@@ -1,7 +1,6 @@
 // All processors and all words: what a run is, and its running state.
 #![tactic(auto)]
 
-mod homes;
 pub mod laws;
 pub mod ran;
 pub mod state;

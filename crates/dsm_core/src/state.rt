@@ -47,7 +47,7 @@ impl State {
     ghost use Rattle.dsm_isa.specs.declared.instr.Instr.{Instr};
     ghost use Rattle.dsm_machine.specs.Processors.{ending};
     ghost use Rattle.dsm_core.specs.Clusters.{IsReached};
-    ghost use Rattle.dsm_core.specs.States.{setup_in, cluster_in, IsFor, Stepped, AllEnded};
+    ghost use Rattle.dsm_core.specs.States.{setup_in, cluster_in, IsFor, Stepped, HasNoRoom, AllEnded};
 
     /// One event of processor `p`, where it has not ended. It takes memory for one entry at most, and where there is
     /// none, the event is that of a processor without memory.
@@ -57,6 +57,8 @@ impl State {
         ensures setup { setup_in self.new program.now ≡ setup_in self.old program.now }
         ensures is_for { IsFor self.new program.now }
         ensures step { Stepped (setup_in self.old program.now) (cluster_in self.old program.now.code) (cluster_in self.new program.now.code) p result }
+        // Memory is wanting only where there was no room for an entry.
+        ensures full { result ≡ Step.NoMemory → HasNoRoom self.old p }
         // From a reached state it leads to a reached one, of which all promises hold.
         ensures reached { IsReached (setup_in self.old program.now) (cluster_in self.old program.now.code) → IsReached (setup_in self.new program.now) (cluster_in self.new program.now.code) }
     {

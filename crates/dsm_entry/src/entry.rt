@@ -1,18 +1,21 @@
 use std::alloc::{AllocError, AllocFailed};
 
-/// Memory was wanted and not got. It is never merged with another cause.
+/// Memory was wanted and not got. It is never merged with another cause, and made of an allocator's
+/// error alone.
 #[derive(Clone, Copy, Debug, PartialEq, Eq)]
-pub struct NoMemory;
+pub struct NoMemory {
+    cause: AllocError,
+}
 
 impl From<AllocError> for NoMemory {
-    fn from(_: AllocError) -> NoMemory {
-        NoMemory
+    fn from(cause: AllocError) -> NoMemory {
+        NoMemory { cause }
     }
 }
 
 impl<T: Drop> From<AllocFailed<T>> for NoMemory {
-    fn from(_: AllocFailed<T>) -> NoMemory {
-        NoMemory
+    fn from(failed: AllocFailed<T>) -> NoMemory {
+        NoMemory::from(AllocError::from(failed))
     }
 }
 

@@ -1,7 +1,7 @@
 ghost use Rattle.std.specs.Prelude.{◌≡◌, ◌+◌, ◌<◌, ◌++◌, [], ◌∷◌, length, slice_get, OnOk, OnErr, IsOk};
 
 use crate::entry::{Entry, NoMemory};
-use std::alloc::{AllocError, Global};
+use std::alloc::Global;
 use std::marker::Model;
 
 /// What one processor did, oldest entry first, with room for some entries more.
@@ -34,24 +34,22 @@ impl Trace {
         }
     }
 
-    /// Makes room for one entry. Where there is room already, it takes no memory.
+    /// Makes room for one entry. Where there is room already, it takes no memory; where memory is not
+    /// got, the trace stays as it was, and had no room.
     pub fn reserve_one(&mut self) -> Result<(), NoMemory>
         ensures list { self.new.list ≡ self.old.list }
         ensures ok { OnOk result (0 < self.new.spare) }
         ensures err { OnErr result (self.new.spare ≡ self.old.spare) }
+        ensures full { OnErr result (self.old.spare ≡ 0) }
         ensures ready { 0 < self.old.spare → IsOk result }
         ensures same { 0 < self.old.spare → self.new.spare ≡ self.old.spare }
     {
         if self.spare > 0 {
             return Ok(());
         }
-        match self.entries.reserve(1) {
-            Ok(()) => {
-                self.spare = 1;
-                Ok(())
-            }
-            Err(AllocError) => Err(NoMemory),
-        }
+        self.entries.reserve(1)?;
+        self.spare = 1;
+        Ok(())
     }
 
     /// Appends an entry. It takes no memory.

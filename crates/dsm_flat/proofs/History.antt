@@ -1,33 +1,12 @@
--- The log: the list of all entries in the order in which they were made, newest first, each with its processor.
-use Rattle.std.proofs.Common.{◌≡◌, ◌≢◌, ℕ, zero, suc, ◌<◌, ◌⊎◌, ◌↔◌, List, [], ◌∷◌, ◌++◌, Some, length, refl, sym, ap, ◌∙◌, inl, inr, arith, if◌then◌else◌, ◌==◌}
-use Rattle.std.specs.Prelude.{slice_get, ◌&&◌}
+-- What one deed more does to a log: what stays, and what is new.
+use Rattle.std.proofs.Common.{◌≡◌, ◌≢◌, ℕ, zero, suc, ◌<◌, ◌⊎◌, List, [], ◌∷◌, ◌++◌, Some, length, refl, sym, ap, ◌∙◌, inl, inr, arith, if◌then◌else◌, ◌==◌}
+use Rattle.std.specs.Prelude.{slice_get}
 use Rattle.std.proofs.lemmas.Bool.{cases_eq, ne_eqb, eq-eqb, and_from, and_right}
 use Rattle.std.proofs.lemmas.Option.{slice_get_within}
 use Rattle.dsm_entry.specs.declared.entry.Entry.{Entry}
 use Rattle.dsm_entry.specs.declared.entry.Place.{Place}
-use Rattle.dsm_flat.specs.Order.{Traces, Holds}
-
--- processor p made the entry e
-pub record Deed : Type 0 where
-  pub p : ℕ
-  pub e : Entry
-
--- all deeds, newest first
-abbrev pub Log : Type 0
-Log = List Deed
-
--- the entries of processor p, oldest first
-abbrev pub mine : ℕ → Log → List Entry
-mine p [] = []
-mine p (d ∷ log) = if d.p == p then mine p log ++ d.e ∷ [] else mine p log
-
--- e is the entry of the log at x
-abbrev pub Was : Log → Place → Entry → Type 0
-Was log x e = slice_get (mine x.p log) x.i ≡ Some e
-
--- the traces hold, at each place, what the log has there
-abbrev pub IsHistory : Log → Traces → Type 0
-IsHistory log ts = (x : Place) (e : Entry) → Holds ts x e ↔ Was log x e
+use Rattle.dsm_flat.specs.Logs.{IsOld, IsNewest, NewIsOneMore, OldStays, NewestIsThere, OwnRises}
+pub use Rattle.dsm_flat.specs.Logs.{Deed, Log, mine, Was, IsHistory, newest, rank}
 
 -- x is the place of the newest deed, and e its entry
 pub record IsNew (d : Deed) (log : Log) (x : Place) (e : Entry) : Type 0 where
@@ -85,10 +64,6 @@ still d log x e h = go (cases_eq d.p x.p)
     go (inl own) = ap (λ t. slice_get t x.i) (mine_own d log x.p own) ∙ get_push_old (mine x.p log) d.e e x.i h
     go (inr ne) = ap (λ t. slice_get t x.i) (mine_other d log x.p ne) ∙ h
 
--- the place of a deed made after this log
-abbrev pub newest : Deed → Log → Place
-newest d log = record { p = d.p; i = length (mine d.p log) }
-
 pub new_is : (d : Deed) (log : Log) → Was (d ∷ log) (newest d log) d.e
 new_is d log = ap (λ t. slice_get t (length (mine d.p log))) (mine_own d log d.p refl) ∙ get_push_new (mine d.p log) d.e
 
@@ -100,11 +75,6 @@ new_place d log x y e f a b =
     let p : x.p ≡ y.p = sym a.own ∙ b.own in
     let i : x.i ≡ y.i = a.at ∙ (ap (λ q. length (mine q log)) p ∙ sym b.at) in
     λ k. record { p = p k; i = i k }
-
--- how many deeds were made before that of the place
-abbrev pub rank : Log → Place → ℕ
-rank [] x = 0
-rank (d ∷ log) x = if (d.p == x.p) && (length (mine x.p log) == x.i) then length log else rank log x
 
 pub rank_new : (d : Deed) (log : Log) (x : Place) (e : Entry) → IsNew d log x e → rank (d ∷ log) x ≡ length log
 rank_new d log x e n =
@@ -125,7 +95,7 @@ rank_below (d ∷ log) x e h = go (new_or_old d log x e h) (λ o. rank_below log
     go (inr n) ih = let a = rank_new d log x e n in omega (arith, a)
 
 -- in one processor's trace a later entry was made later
-pub rank_own : (log : Log) (x y : Place) (e f : Entry) → Was log x e → Was log y f → x.p ≡ y.p → x.i < y.i → rank log x < rank log y
+pub rank_own : OwnRises
 rank_own [] x y e f h g p lt = absurd (cc h)
 rank_own (d ∷ log) x y e f h g p lt = go (new_or_old d log x e h) (new_or_old d log y f g) (λ a b. rank_own log x y e f a b p lt)
   where
@@ -137,3 +107,23 @@ rank_own (d ∷ log) x y e f h g p lt = go (new_or_old d log x e h) (new_or_old 
         let s : length (mine x.p log) ≡ length (mine y.p log) = ap (λ q. length (mine q log)) p in
         absurd (omega (arith, low, s, a.at, lt))
     go (inr a) (inr b) ih = let s : x.i ≡ y.i = ap (λ z. z.i) (new_place d log x y e f a b) in absurd (omega (arith, s, lt))
+
+-- the same with the ranks
+as_old : (d : Deed) (log : Log) (x : Place) (e : Entry) → Was log x e → IsOld d log x e
+as_old d log x e h = record { was = h; rank_same = rank_old d log x e h; rank_below = rank_below log x e h }
+
+as_newest : (d : Deed) (log : Log) (x : Place) (e : Entry) → IsNew d log x e → IsNewest d log x e
+as_newest d log x e n = record { own = sym n.own; entry_is = n.is; rank_is = rank_new d log x e n }
+
+pub one_more : NewIsOneMore
+one_more d log x e h = go (new_or_old d log x e h)
+  where
+    go : Was log x e ⊎ IsNew d log x e → IsOld d log x e ⊎ IsNewest d log x e
+    go (inl a) = inl (as_old d log x e a)
+    go (inr n) = inr (as_newest d log x e n)
+
+pub old_stays : OldStays
+old_stays d log x e h = (still d log x e h, as_old d log x e h)
+
+pub newest_is_there : NewestIsThere
+newest_is_there d log = (new_is d log, as_newest d log (newest d log) d.e (record { own = refl; at = refl; is = refl }))

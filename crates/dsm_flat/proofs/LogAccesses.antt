@@ -5,24 +5,11 @@ use Rattle.std.proofs.lemmas.Bool.{eq-eqb, eqb-true}
 use Rattle.dsm_entry.specs.declared.entry.Entry.{Entry}
 use Rattle.dsm_entry.specs.declared.entry.Entry.TheVariants.{Load, Store}
 use Rattle.dsm_entry.specs.declared.entry.Place.{Place}
-use Rattle.dsm_flat.specs.Order.{Traces, Holds}
-use Rattle.dsm_flat.specs.WordLaw.{Made, left_by, latest, Gets, InOrder, Falls, AreAccesses}
-use Rattle.dsm_flat.proofs.History.{Deed, Log, Was, IsHistory, IsNew, new_or_old, still, newest, new_is, new_place, rank, rank_new, rank_old, rank_below}
-
--- the entry is a load of w or a store to w
-abbrev pub accesses_word : ℕ → Entry → Bool
-accesses_word w (Load u v) = u == w
-accesses_word w (Store u v) = u == w
-accesses_word w _ = false
-
--- the deed with its place, if it accesses w, before older accesses
-abbrev pub made_by : ℕ → Deed → Log → List Made → List Made
-made_by w d log older = if accesses_word w d.e then record { place = newest d log; entry = d.e } ∷ older else older
-
--- the accesses to w in the log, newest first
-abbrev pub accesses_of : ℕ → Log → List Made
-accesses_of w [] = []
-accesses_of w (d ∷ log) = made_by w d log (accesses_of w log)
+use Rattle.dsm_flat.specs.Order.{Holds}
+use Rattle.dsm_flat.specs.WordLaw.{Made, left_by, latest, Gets, InOrder, Falls}
+use Rattle.dsm_flat.specs.Logs.{Deed, Log, Was, newest, rank, LogHasAccesses, stored_by, LatestGrows, OrderGrows}
+pub use Rattle.dsm_flat.specs.Logs.{accesses_word, made_by, accesses_of}
+use Rattle.dsm_flat.proofs.History.{IsNew, new_or_old, still, new_is, new_place, rank_new, rank_old, rank_below}
 
 -- an entry is of w in the log
 abbrev IsOf : ℕ → Entry → Type 0
@@ -86,7 +73,7 @@ has w [] = record { held = λ i m a. absurd (cc a); all = λ x e g of. absurd (c
 has w (d ∷ log) = has_step w d log (accesses_of w log) (has w log)
 
 -- the accesses to a word in a log are those in its traces
-pub are_accesses : (w : ℕ) (log : Log) (ts : Traces) → IsHistory log ts → AreAccesses ts w (rank log) (accesses_of w log)
+pub are_accesses : LogHasAccesses
 are_accesses w log ts history =
     let h = has w log in
     record {
@@ -106,13 +93,8 @@ are_accesses w log ts history =
     found x v (inl at) = listed x (Load w v) at (v, inl refl)
     found x v (inr at) = listed x (Store w v) at (v, inr refl)
 
--- the value of w behind an entry, where it was u before
-abbrev pub stored_by : ℕ → Entry → ℕ → ℕ
-stored_by w (Store u v) old = if u == w then v else old
-stored_by w _ old = old
-
 -- what a deed does to the value of the latest store
-pub latest_step : (initial w : ℕ) (d : Deed) (log : Log) → latest initial (accesses_of w (d ∷ log)) ≡ stored_by w d.e (latest initial (accesses_of w log))
+pub latest_step : LatestGrows
 latest_step initial w d log = go d.e (accesses_of w log)
   where
     pick : (e : Entry) (list : List Made) (b : Bool) → latest initial (if b then record { place = newest d log; entry = e } ∷ list else list) ≡ (if b then left_by e (latest initial list) else latest initial list)
@@ -129,7 +111,7 @@ latest_step initial w d log = go d.e (accesses_of w log)
     go e list = refl
 
 -- a deed that gets the value of the latest store where it loads w keeps the order
-pub in_order_step : (initial w : ℕ) (d : Deed) (log : Log) → ((v : ℕ) → d.e ≡ Load w v → v ≡ latest initial (accesses_of w log)) → InOrder initial (accesses_of w log) → InOrder initial (accesses_of w (d ∷ log))
+pub in_order_step : OrderGrows
 in_order_step initial w d log got ok = go (accesses_word w d.e) refl
   where
     gets : (e : Entry) → d.e ≡ e → accesses_word w e ≡ true → Gets e (latest initial (accesses_of w log))

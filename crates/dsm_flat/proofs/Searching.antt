@@ -11,7 +11,7 @@ use Rattle.dsm_entry.specs.declared.entry.Entry.TheVariants.{Load, Store, Signal
 use Rattle.dsm_entry.specs.declared.entry.Place.{Place}
 use Rattle.dsm_entry.specs.Told.{Told}
 use Rattle.dsm_flat.specs.Order.{Traces, found_in, entry_at, Holds, Edge, Next, Sync, Before, One, Then}
-use Rattle.dsm_flat.specs.Judge.{list_of, lists_of}
+use Rattle.dsm_entry.specs.Told.{list_of, lists_of}
 use Rattle.dsm_flat.specs.Links.{WaitsFor, IsPass, AreFirstPasses, LeadsTo, AreTraceLinks, AreLinks}
 use Rattle.dsm_flat.specs.Rows.{Covers, IsLowered, IsAt, IsReach}
 use Rattle.dsm_flat.proofs.OrderLaws.{transitive, same_place, Within, within, own_before}

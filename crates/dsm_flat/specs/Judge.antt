@@ -6,14 +6,6 @@ use Rattle.dsm_entry.specs.Told.{Told}
 use Rattle.dsm_flat.specs.Order.{Traces, Before}
 use Rattle.dsm_flat.specs.Flat.{Conflict}
 
--- the entries of a trace
-abbrev pub list_of : Told → List Entry
-list_of t = t.list
-
--- the entries of each trace
-abbrev pub lists_of : List Told → Traces
-lists_of told = map list_of told
-
 -- x comes before y in the order of places: by processor, then by entry
 abbrev pub IsBelow : Place → Place → Type 0
 IsBelow x y = (x.p < y.p) ⊎ ((x.p ≡ y.p) × (x.i < y.i))

@@ -3,6 +3,7 @@ pub mod Flat
 pub mod Sync
 pub mod Laws
 pub mod WordLaw
+pub mod Logs
 pub mod Judge
 pub mod Links
 pub mod Rows

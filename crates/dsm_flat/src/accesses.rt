@@ -1,6 +1,6 @@
 // The accesses to a word.
 ghost use Rattle.std.specs.Prelude.{◌≡◌, ◌+◌, ◌<◌, ◌^◌, length, IfOk, OnOk};
-ghost use Rattle.dsm_flat.specs.Judge.{lists_of};
+ghost use Rattle.dsm_entry.specs.Told.{lists_of};
 ghost use Rattle.dsm_flat.specs.Accesses.{kind_of, IsListed, first_place};
 
 use dsm_entry::entry::{Entry, NoMemory, Place};

@@ -3,7 +3,8 @@ ghost use Rattle.std.specs.Prelude.{◌≡◌, ℕ, ◌+◌, ◌<◌, ◌^◌, �
 ghost use Rattle.dsm_entry.specs.declared.entry.Place.{Place};
 ghost use Rattle.dsm_flat.specs.declared.verdict.Verdict.TheVariants.{Ordered as SaysOrdered, Raced as SaysRaced};
 ghost use Rattle.dsm_flat.specs.Flat.{Ordered};
-ghost use Rattle.dsm_flat.specs.Judge.{lists_of, IsFirstRace};
+ghost use Rattle.dsm_entry.specs.Told.{lists_of};
+ghost use Rattle.dsm_flat.specs.Judge.{IsFirstRace};
 ghost use Rattle.dsm_flat.specs.Accesses.{AreAt, AreRows, AreWide, IsOrderedBy, IsRacyAt, IsOrderedUpTo};
 
 use crate::accesses::{Access, accesses};

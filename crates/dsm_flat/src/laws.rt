@@ -1,6 +1,7 @@
 // Laws of the order, whatever the traces are.
 ghost use Rattle.dsm_flat.specs.Laws.{IsTransitive, RankExcludesCircles, LastIsDetermined, FinalIsDetermined, OneTrace, SignalThenPass};
 ghost use Rattle.dsm_flat.specs.WordLaw.{WordIsFlat, WordIsHandedOver};
+ghost use Rattle.dsm_flat.specs.Logs.{NewIsOneMore, OldStays, NewestIsThere, OwnRises, LogHasAccesses, LatestGrows, OrderGrows};
 
 /// The laws of the order. It does nothing: its clauses are what it is for.
 pub fn order_laws()
@@ -25,4 +26,23 @@ pub fn word_law()
     ensures flat { WordIsFlat }
     // From a store to an ordered word to a later access by another processor lead a signal and then a pass.
     ensures handed { WordIsHandedOver }
+{}
+
+/// The laws of a log, which is what all processors did in the order in which they did it. It does nothing: its clauses are
+/// what it is for.
+pub fn log_law()
+    // What is in a log with one deed more is old, or it is that deed.
+    ensures one_more { NewIsOneMore }
+    // What was in the log stays at its place, and keeps its rank.
+    ensures old { OldStays }
+    // The newest deed is there, and has the greatest rank.
+    ensures newest { NewestIsThere }
+    // In one processor's trace a later entry has a greater rank.
+    ensures own { OwnRises }
+    // The accesses to a word in a log are those in its traces, the one of highest rank first.
+    ensures accesses { LogHasAccesses }
+    // A deed that stores to the word is its latest store.
+    ensures latest { LatestGrows }
+    // A deed that gets the latest store where it loads the word keeps its accesses in order.
+    ensures order { OrderGrows }
 {}

@@ -1,6 +1,6 @@
 // The edges from signals to passes: for each signal, only the first pass of each processor.
 ghost use Rattle.std.specs.Prelude.{◌<◌, length, IfOk};
-ghost use Rattle.dsm_flat.specs.Judge.{lists_of};
+ghost use Rattle.dsm_entry.specs.Told.{lists_of};
 ghost use Rattle.dsm_flat.specs.Links.{LeadsTo, AreTraceLinks, AreLinks};
 
 use crate::row::Row;

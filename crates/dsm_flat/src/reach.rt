@@ -1,6 +1,6 @@
 // What a place is before.
 ghost use Rattle.std.specs.Prelude.{◌≡◌, ℕ, ◌<◌, ◌≤◌, length, slice_index, map, IfOk, MatchOption};
-ghost use Rattle.dsm_flat.specs.Judge.{lists_of};
+ghost use Rattle.dsm_entry.specs.Told.{lists_of};
 ghost use Rattle.dsm_flat.specs.Links.{AreLinks};
 ghost use Rattle.dsm_flat.specs.Rows.{IsAt, IsReach};
 

@@ -1,6 +1,6 @@
 // For each processor an index into its trace.
 ghost use Rattle.std.specs.Prelude.{◌≡◌, ◌<◌, ◌≤◌, ◌↔◌, [], length, map, slice_index, slice_set, IfOk, IsTrue};
-ghost use Rattle.dsm_flat.specs.Judge.{lists_of};
+ghost use Rattle.dsm_entry.specs.Told.{lists_of};
 ghost use Rattle.dsm_flat.specs.Links.{IsFirstPass, AreFirstPasses};
 ghost use Rattle.dsm_flat.specs.Rows.{Covers, IsLowered};
 

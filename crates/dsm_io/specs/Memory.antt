@@ -13,9 +13,11 @@ pub record MemorySource : Type 0 where
   pub chunk : ℕ
   pub calls : Calls
 
--- a sink in memory: the bytes written, how many more it has room for, the most that one write takes, and its calls
+-- a sink in memory: the bytes written, how many of them were handed on, how many more it has room for, the most that
+-- one write takes, and its calls
 pub record MemorySink : Type 0 where
   pub written : List ℕ
+  pub handed : ℕ
   pub room : ℕ
   pub chunk : ℕ
   pub calls : Calls

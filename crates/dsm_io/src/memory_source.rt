@@ -1,4 +1,4 @@
-ghost use Rattle.std.specs.Prelude.{◌≡◌, ℕ, ◌<◌, ◌≤◌, ◌↔◌, drop, length, Some, IfOk, IsErr, OnErr, MatchResult};
+ghost use Rattle.std.specs.Prelude.{◌≡◌, ℕ, ◌<◌, ◌≤◌, ◌↔◌, drop, length, Some, IfOk, OnOk, IsErr, OnErr, MatchResult};
 ghost use Rattle.std.specs.Io.KnownBytes.{ReadConsumes};
 ghost use Rattle.dsm_io.specs.Faults.{Rose};
 ghost use Rattle.dsm_io.specs.Memory.{FailsNext, called, called_in_vain, count_read};
@@ -53,6 +53,7 @@ impl Source for MemSource {
         ensures bytes { ReadConsumes (Some self.old.left) (Some self.new.left) result buf.new }
         ensures failed { OnErr result (Rose self.old.calls.failed self.new.calls.failed) }
         ensures counts { self.old.calls.failed ≤ self.new.calls.failed }
+        ensures well { OnOk result (self.new.calls.failed ≡ self.old.calls.failed) }
         // Exactly the planned reads fail.
         ensures fails { IsErr result ↔ FailsNext self.old.calls }
         // The others give as much as the buffer, the chunk and the bytes left allow.

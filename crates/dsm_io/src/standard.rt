@@ -8,7 +8,7 @@ use std::io::{Read, Write};
 use std::marker::Model;
 
 /// A source over a reader of std, as standard input. Each error of the reader raises its count of
-/// faults. It tells no bytes.
+/// faults. It tells the bytes that the reader tells: a reader over memory does, standard input doesn't.
 #[derive(Drop)]
 pub struct StdSource<T: Read + Drop> {
     reader: T,
@@ -16,26 +16,26 @@ pub struct StdSource<T: Read + Drop> {
 }
 
 impl<T: Read + Drop> Model for StdSource<T> {
-    ghost use Rattle.std.specs.Prelude.{ℕ};
+    ghost use Rattle.dsm_io.specs.Standard.{ReaderSource};
 
-    ghost Value = { ℕ };
+    ghost Value = { ReaderSource };
 
-    ghost view = { λ s. s.faults };
+    ghost view = { λ s. record { left = T.remaining s.reader; faults = s.faults } };
 }
 
 impl<T: Read + Drop> StdSource<T> {
     /// A source over this reader, which hasn't failed yet.
     pub fn new(reader: T) -> StdSource<T>
-        ensures { result ≡ 0 }
+        ensures { result ≡ record { left = T.remaining reader; faults = 0 } }
     {
         StdSource { reader, faults: 0 }
     }
 }
 
 impl<T: Read + Drop> Source for StdSource<T> {
-    ghost left = { λ _. None };
+    ghost left = { λ s. s.left };
 
-    ghost faults = { λ s. s };
+    ghost faults = { λ s. s.faults };
 
     fn read(&mut self, buf: &mut [u8]) -> Result<usize, Failed> {
         match self.reader.read(buf) {
@@ -49,7 +49,9 @@ impl<T: Read + Drop> Source for StdSource<T> {
 }
 
 /// A sink over a writer of std, as standard output. Each error of the writer raises its count of
-/// faults, and so does a write that takes nothing of a piece that is not empty. It tells no bytes.
+/// faults, and so does a write that takes nothing of a piece that is not empty. It tells the bytes that
+/// the writer tells: a writer over memory does, standard output doesn't. It doesn't tell which of them
+/// were handed on, since no writer of std does.
 #[derive(Drop)]
 pub struct StdSink<T: Write + Drop> {
     writer: T,
@@ -57,24 +59,25 @@ pub struct StdSink<T: Write + Drop> {
 }
 
 impl<T: Write + Drop> Model for StdSink<T> {
-    ghost use Rattle.std.specs.Prelude.{ℕ};
+    ghost use Rattle.dsm_io.specs.Standard.{WriterSink};
 
-    ghost Value = { ℕ };
+    ghost Value = { WriterSink };
 
-    ghost view = { λ s. s.faults };
+    ghost view = { λ s. record { written = T.contents s.writer; faults = s.faults } };
 }
 
 impl<T: Write + Drop> StdSink<T> {
     /// A sink over this writer, which hasn't failed yet.
     pub fn new(writer: T) -> StdSink<T>
-        ensures { result ≡ 0 }
+        ensures { result ≡ record { written = T.contents writer; faults = 0 } }
     {
         StdSink { writer, faults: 0 }
     }
 
     fn fail(&mut self) -> Failed
-        ensures rose { Rose self.old self.new }
-        ensures counts { self.old ≤ self.new }
+        ensures written { self.new.written ≡ self.old.written }
+        ensures rose { Rose self.old.faults self.new.faults }
+        ensures counts { self.old.faults ≤ self.new.faults }
     {
         self.faults = self.faults.saturating_add(1);
         Failed
@@ -82,9 +85,11 @@ impl<T: Write + Drop> StdSink<T> {
 }
 
 impl<T: Write + Drop> Sink for StdSink<T> {
-    ghost written = { λ _. None };
+    ghost written = { λ s. s.written };
 
-    ghost faults = { λ s. s };
+    ghost handed = { λ _. None };
+
+    ghost faults = { λ s. s.faults };
 
     fn write(&mut self, piece: &[u8]) -> Result<usize, Failed> {
         match self.writer.write(piece) {
@@ -125,6 +130,38 @@ mod tests {
         fn flush(&mut self) -> io::Result<()> {
             Err(io::Error::from(io::ErrorKind::BrokenPipe))
         }
+    }
+
+    // A writer that gives out only what was flushed.
+    #[derive(Drop)]
+    struct Holding {
+        held: Vec<u8>,
+        out: Vec<u8>,
+    }
+
+    impl Write for Holding {
+        fn write(&mut self, buf: &[u8]) -> io::Result<usize> {
+            self.held.extend_from_slice(buf)?;
+            Ok(buf.len())
+        }
+
+        fn flush(&mut self) -> io::Result<()> {
+            self.out.extend_from_slice(self.held.as_slice())?;
+            self.held.clear();
+            Ok(())
+        }
+    }
+
+    #[test]
+    fn finishes_by_flushing(rt: HostRuntime) -> Result<(), Fail> {
+        let mut sink = StdSink::new(Holding {
+            held: Vec::new(rt.alloc()),
+            out: Vec::new(rt.alloc()),
+        });
+        assert_eq!(rt; sink.write(&[5, 6]), Ok(2));
+        assert_eq!(rt; sink.finish(), Ok(()));
+        assert_eq!(rt; sink.writer.out.as_slice(), [5u8, 6].as_slice());
+        Ok(())
     }
 
     #[test]

@@ -34,15 +34,16 @@ fn reads_on_after_a_fault(rt: HostRuntime) -> Result<(), Fail> {
     Ok(())
 }
 
-// Each row: the room, the call that fails, what is answered, and how many bytes were written.
+// Each row: the room, the call that fails, what is answered, how many bytes were written, and how many of them were
+// handed on.
 #[test]
 fn writes_all_or_a_prefix(rt: HostRuntime) -> Result<(), Fail> {
     let alloc = rt.alloc();
-    for (room, fail, answer, count) in [
-        (10, 9, Ok(()), 10),
-        (20, 2, Err(Failed), 5),
-        (4, 9, Err(Failed), 4),
-        (10, 3, Err(Failed), 10),
+    for (room, fail, answer, count, handed) in [
+        (10, 9, Ok(()), 10, 10),
+        (20, 2, Err(Failed), 5, 0),
+        (4, 9, Err(Failed), 4, 0),
+        (10, 3, Err(Failed), 10, 0),
     ] {
         let mut sink = MemSink::new(alloc, room, 5, [fail].to_vec(alloc)?)?;
         assert_eq!(rt; sink.bytes().len(), 0);
@@ -54,6 +55,11 @@ fn writes_all_or_a_prefix(rt: HostRuntime) -> Result<(), Fail> {
         assert_eq!(rt;
             Some(sink.bytes()),
             TEN.get(..count),
+            "at room {room}, call {fail}"
+        );
+        assert_eq!(rt;
+            Some(sink.handed()),
+            TEN.get(..handed),
             "at room {room}, call {fail}"
         );
     }

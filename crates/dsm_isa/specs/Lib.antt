@@ -1,4 +1,5 @@
 pub mod Jumps
 pub mod Limits
+pub mod Operands
 pub mod ProgramText
 pub mod Rules

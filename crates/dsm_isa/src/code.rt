@@ -79,6 +79,7 @@ impl Code {
     {
         self.list.len() as u32
     }
+
     /// The instructions in order.
     pub fn as_slice(&self) -> &[Instr]
         ensures value { result.now ≡ self.now }
@@ -105,22 +106,8 @@ fn first_bad_jump(list: &[Instr]) -> Option<u32>
 fn jumps_past(instr: Instr, end: usize) -> bool
     ensures { IsTrue result ↔ IsSomeAnd (target_of instr) (λ to. end < to) }
 {
-    match target(instr) {
+    match instr.target() {
         Some(to) => end < to as usize,
         None => false,
-    }
-}
-
-// The place that the instruction may jump to.
-fn target(instr: Instr) -> Option<u32>
-    ensures { result ≡ target_of instr }
-{
-    match instr {
-        Instr::Jmp { to } => Some(to),
-        Instr::Beq { to, .. } => Some(to),
-        Instr::Bne { to, .. } => Some(to),
-        Instr::Blt { to, .. } => Some(to),
-        Instr::Bge { to, .. } => Some(to),
-        _ => None,
     }
 }

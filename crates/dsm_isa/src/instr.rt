@@ -1,3 +1,5 @@
+ghost use Rattle.std.specs.Prelude.{◌≡◌};
+
 use crate::reg::Reg;
 
 /// An instruction. `d`, `a`, `b` and `s` name registers, `k` is a number, `l`, `b` and `f` are the
@@ -73,4 +75,22 @@ pub enum Instr {
     Out { s: Reg },
     /// Ends the program.
     Halt,
+}
+
+impl Instr {
+    ghost use Rattle.dsm_isa.specs.Jumps.{target_of};
+
+    /// The place that it may jump to.
+    pub fn target(self) -> Option<u32>
+        ensures { result ≡ target_of self }
+    {
+        match self {
+            Instr::Jmp { to } => Some(to),
+            Instr::Beq { to, .. } => Some(to),
+            Instr::Bne { to, .. } => Some(to),
+            Instr::Blt { to, .. } => Some(to),
+            Instr::Bge { to, .. } => Some(to),
+            _ => None,
+        }
+    }
 }

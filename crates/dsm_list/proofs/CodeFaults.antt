@@ -17,7 +17,8 @@ use Rattle.dsm_grammar.specs.Settings.{Settings, default_settings}
 use Rattle.dsm_grammar.specs.Statements.{named, instructions}
 use Rattle.dsm_list.specs.Canonical.{label_line, is_target, label_lines, code_lines}
 use Rattle.dsm_list.specs.Lines.{joined}
-use Rattle.dsm_list.specs.Spelling.{parts_of, operand_word, label, spelling, IsInRange}
+use Rattle.dsm_isa.specs.Operands.{parts_of, IsInRange}
+use Rattle.dsm_list.specs.Spelling.{operand_word, label, spelling}
 use Rattle.dsm_list.proofs.CodeLines.{label_at, lines_from, lines_from-cons, label_at-cases, Knows, defines-reads}
 use Rattle.dsm_list.proofs.Fine.{Fine, Fine-append}
 use Rattle.dsm_list.proofs.Front.{list_any-last}

@@ -16,7 +16,8 @@ use Rattle.dsm_grammar.specs.Lines.{statement_of}
 use Rattle.dsm_grammar.specs.Settings.{Settings}
 use Rattle.dsm_list.specs.Canonical.{label_line, is_target, label_lines, code_lines}
 use Rattle.dsm_list.specs.Lines.{joined}
-use Rattle.dsm_list.specs.Spelling.{label, spelling, IsInRange}
+use Rattle.dsm_isa.specs.Operands.{IsInRange}
+use Rattle.dsm_list.specs.Spelling.{label, spelling}
 use Rattle.dsm_list.proofs.Directives.{set_on}
 use Rattle.dsm_list.proofs.Operands.{bytes_eq-same, bytes_eq-labels}
 use Rattle.dsm_list.proofs.Reading.{Reads, Reads-instr, Reads-label, has_instruction-instr, has_instruction-label}

@@ -16,7 +16,8 @@ use Rattle.dsm_grammar.specs.Settings.{Settings, default_settings, starts_as}
 use Rattle.dsm_grammar.specs.Statements.{Statement, statement, named, directives, instructions}
 use Rattle.dsm_list.specs.Canonical.{init_line}
 use Rattle.dsm_list.specs.Lines.{joined}
-use Rattle.dsm_list.specs.Spelling.{Operand, Number, operand_word, AreOperands}
+use Rattle.dsm_isa.specs.Operands.{Operand, Number, AreOperands}
+use Rattle.dsm_list.specs.Spelling.{operand_word}
 use Rattle.dsm_list.proofs.Words.{is_word}
 use Rattle.dsm_list.proofs.Operands.{value, AllSuit, values_of-words, operands_fault-words, length-suit}
 use Rattle.dsm_list.proofs.Reading.{Reads, Reads-named, has_instruction-reads, line_fault-reads, statement_fault-none}

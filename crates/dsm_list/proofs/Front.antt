@@ -15,7 +15,8 @@ use Rattle.dsm_grammar.specs.Lines.{statement_of}
 use Rattle.dsm_grammar.specs.Settings.{Settings, default_settings}
 use Rattle.dsm_list.specs.Canonical.{size_lines, init_line}
 use Rattle.dsm_list.specs.Lines.{joined}
-use Rattle.dsm_list.specs.Spelling.{Operand, Number, operand_word}
+use Rattle.dsm_isa.specs.Operands.{Operand, Number}
+use Rattle.dsm_list.specs.Spelling.{operand_word}
 use Rattle.dsm_list.proofs.Directives.{Directive, Sets, directive_line, Reads-directive, begins_code-directive, line_fault-directive, instruction_in-directive, pages-Directive, words-Directive, locks-Directive, barriers-Directive, flags-Directive, pages-Sets, words-Sets, locks-Sets, barriers-Sets, flags-Sets, set_by-pages, set_by-words, set_by-locks, set_by-barriers, set_by-flags, init_operands, init-Directive, init-Sets, set_by-init, FitsWord, set_on}
 use Rattle.dsm_list.proofs.Fine.{Fine}
 use Rattle.dsm_list.proofs.Operands.{are_words-operands}

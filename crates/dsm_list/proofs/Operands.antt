@@ -15,7 +15,8 @@ use Rattle.dsm_grammar.specs.Grammar.{values_of}
 use Rattle.dsm_grammar.specs.Lines.{label_in}
 use Rattle.dsm_grammar.specs.Operands.{Place, Register as ARegister, Number as ANumber, Within, Label, register_of, value_of, value_fault}
 use Rattle.dsm_lex.proofs.Numbers.{number_of-back}
-use Rattle.dsm_list.specs.Spelling.{Operand, Register, Number, Target, operand_word, label, IsOperand, AreOperands}
+use Rattle.dsm_isa.specs.Operands.{Operand, Register, Number, Target, IsOperand, AreOperands}
+use Rattle.dsm_list.specs.Spelling.{operand_word, label}
 use Rattle.dsm_list.proofs.Words.{is_word_byte, is_word}
 
 -- what an operand stands for

@@ -15,7 +15,8 @@ use Rattle.dsm_grammar.specs.Settings.{default_settings}
 use Rattle.dsm_lex.specs.Lexical.{content_of, words_of}
 use Rattle.dsm_list.specs.Canonical.{label_line}
 use Rattle.dsm_list.specs.Lines.{joined}
-use Rattle.dsm_list.specs.Spelling.{Operand, operand_word, AreOperands, label, parts_of, spelling, IsInRange}
+use Rattle.dsm_isa.specs.Operands.{Operand, AreOperands, parts_of, IsInRange}
+use Rattle.dsm_list.specs.Spelling.{operand_word, label, spelling}
 use Rattle.dsm_list.proofs.Words.{is_word, is_plain-joined, words_of-joined}
 use Rattle.dsm_list.proofs.Operands.{length-operand, are_words-operands, is_word-label_word, length-label_word, label_in-label_word}
 use Rattle.dsm_list.proofs.Rows.{name_of, some_instruction}

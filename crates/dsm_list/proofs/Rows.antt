@@ -12,7 +12,8 @@ use Rattle.dsm_grammar.specs.Lines.{label_in}
 use Rattle.dsm_grammar.specs.Operands.{Register, Number, Within, Label}
 use Rattle.dsm_grammar.specs.Settings.{Settings}
 use Rattle.dsm_grammar.specs.Statements.{Statement, statement, named, directives, instructions, three_registers, two_registers_number, two_registers_label}
-use Rattle.dsm_list.specs.Spelling.{parts_of, operand_word, label, spelling, IsInRange}
+use Rattle.dsm_isa.specs.Operands.{parts_of, IsInRange}
+use Rattle.dsm_list.specs.Spelling.{operand_word, label, spelling}
 use Rattle.dsm_list.proofs.Words.{is_word}
 use Rattle.dsm_list.proofs.Operands.{value, AllSuit, values_of-words}
 

@@ -20,7 +20,7 @@ use Rattle.dsm_grammar.specs.Lines.{label_of, statement_of}
 use Rattle.dsm_grammar.specs.Settings.{Settings, default_settings}
 use Rattle.dsm_list.specs.Canonical.{size_lines, init_line, jumps_to, code_lines, program_lines, canonical}
 use Rattle.dsm_list.specs.Lines.{joined}
-use Rattle.dsm_list.specs.Programs.{IsProgram}
+use Rattle.dsm_isa.specs.Rules.{IsProgram}
 use Rattle.dsm_list.specs.Spelling.{label}
 use Rattle.dsm_list.proofs.CodeFaults.{defines-none, Before-front, Fine-code, are_words-code, some_code}
 use Rattle.dsm_list.proofs.CodeLines.{lines_from, set_on-code, Knows, code_of-code, place_of-other, option_map-same, place_of-code}

@@ -1,4 +1,3 @@
 pub mod Canonical
 pub mod Lines
-pub mod Programs
 pub mod Spelling

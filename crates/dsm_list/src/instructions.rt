@@ -1,6 +1,7 @@
 ghost use Rattle.std.specs.Prelude.{◌≡◌, ◌<◌, ◌++◌, [], ◌∷◌, codes, map, OnOk};
 ghost use Rattle.dsm_list.specs.Lines.{joined, line};
-ghost use Rattle.dsm_list.specs.Spelling.{Register, Number, Target, operand_word, AreOperands, registers, branch, spelling, IsInRange};
+ghost use Rattle.dsm_isa.specs.Operands.{Register, Number, Target, AreOperands, registers, branch, IsInRange};
+ghost use Rattle.dsm_list.specs.Spelling.{operand_word, spelling};
 
 use crate::lines::Lines;
 use dsm_entry::entry::NoMemory;

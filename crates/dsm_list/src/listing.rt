@@ -4,7 +4,7 @@ ghost use Rattle.dsm_isa.specs.ProgramText.{sizes_of};
 ghost use Rattle.dsm_grammar.specs.Faults.{first_fault_of};
 ghost use Rattle.dsm_grammar.specs.Grammar.{program_of};
 ghost use Rattle.dsm_list.specs.Lines.{joined, line};
-ghost use Rattle.dsm_list.specs.Spelling.{IsInRange};
+ghost use Rattle.dsm_isa.specs.Operands.{IsInRange};
 ghost use Rattle.dsm_list.specs.Canonical.{canonical, shape_line, size_lines, init_line, label_line, is_target, code_lines};
 
 use crate::instructions::write_instr;

@@ -11,7 +11,7 @@ use Rattle.dsm_local.specs.declared.reader.Reader.{Reader}
 use Rattle.dsm_local.specs.declared.setting.Setting.{Setting}
 use Rattle.dsm_local.specs.Actions.{value, address, word_at, load, store, give_back, open_pass, action_of}
 use Rattle.dsm_local.specs.Readers.{next_action}
-use Rattle.dsm_words.specs.declared.item.Item.TheVariants.{Stop, Lock as LockWord}
+use Rattle.dsm_words.specs.declared.item.Item.TheVariants.{Stop}
 use Rattle.dsm_words.specs.Script.{Act, Get, End}
 use Rattle.dsm_sync.specs.declared.counter.Counter.{Counter}
 use Rattle.dsm_sync.specs.declared.counter.Counter.TheVariants.{Barrier, Flag, Close}
@@ -23,9 +23,9 @@ use Rattle.dsm_local.specs.declared.end.End.{End as Ending}
 use Rattle.dsm_local.specs.declared.end.End.TheVariants.{Looked, Stopped}
 use Rattle.dsm_machine.specs.declared.head.Head.{Head}
 use Rattle.dsm_machine.specs.declared.head.Head.TheVariants.{Instruction, Locking, Looking}
-use Rattle.dsm_machine.specs.Own.{Own, Who, setting_of, new_own, looked_again}
-use Rattle.dsm_machine.specs.Jobs.{Job, Make, Again, Mark, Ask, Begin, Ended, call, own_after, job_after, first_act}
-use Rattle.dsm_machine.specs.Steps.{is_last, heed_job, stop_job, unready_job, tried_job, looked_job, look_job, action_job, head_job, starved_job}
+use Rattle.dsm_machine.specs.Own.{Own, Who, Unready as Unready_looks, setting_of, new_own, counted}
+use Rattle.dsm_machine.specs.Jobs.{Job, Make, Again, Mark, Ask, Begin, Ended, call, own_after, job_after}
+use Rattle.dsm_machine.specs.Steps.{is_last, heed_job, stop_job, unready_job, tried_job, looked_job, look_job, action_job, head_job}
 use Rattle.dsm_machine.specs.Processors.{Processor, Given, settled, run_on, ending, wanting, after_given, processor_of}
 use Rattle.dsm_machine.specs.Ends.{Cause, EveryEndHasItsCause}
 
@@ -79,143 +79,144 @@ module _ (u : Who) (code : List Instr) where
   abbrev told : ℕ → Given
   told x = record { starved = false; got = x }
 
-  -- in the event of operation a, given g, and in all later ones up to the next head, an end has its cause
-  abbrev Sound : Act → Given → Own → Job → Type 0
-  Sound a g o (Make b k) = (x : ℕ) → Sound b (told x) o (k x)
-  Sound a g o (Again b wanted j) = (x : ℕ) → Sound b (told x) o j
-  Sound a g o (Mark n j) = Sound a g (own_after o n) j
-  Sound a g o (Ask f) = Sound a g o (f o)
-  Sound a g o (Begin h) = Unit {0}
-  Sound a g o (Ended e) = Cause u code o a g e
+  -- a processor that holds o and has this to do
+  abbrev doing : Own → Job → Processor
+  doing o j = record { own = o; todo = j }
+
+  -- in the event of processor m, given g, and in all later ones up to the next head, an end has its cause
+  abbrev Sound : Processor → Given → Own → Job → Type 0
+  Sound m g o (Make b k) = (x : ℕ) → Sound (doing o (Make b k)) (told x) o (k x)
+  Sound m g o (Again b wanted j) = (x : ℕ) → Sound (doing o (Again b wanted j)) (told x) o j
+  Sound m g o (Mark n j) = Sound m g (own_after o n) j
+  Sound m g o (Ask f) = Sound m g o (f o)
+  Sound m g o (Begin h) = Unit {0}
+  Sound m g o (Ended e) = Cause u code m o g e
 
   -- the same of a processor that stands before an operation or has ended
-  abbrev Stands : Act → Given → Own → Job → Type 0
-  Stands a g o (Make b k) = (x : ℕ) → Sound b (told x) o (k x)
-  Stands a g o (Again b wanted j) = (x : ℕ) → Sound b (told x) o j
-  Stands a g o (Ended e) = Cause u code o a g e
-  Stands a g o _ = ⊥
+  abbrev Stands : Processor → Given → Own → Job → Type 0
+  Stands m g o (Make b k) = (x : ℕ) → Sound (doing o (Make b k)) (told x) o (k x)
+  Stands m g o (Again b wanted j) = (x : ℕ) → Sound (doing o (Again b wanted j)) (told x) o j
+  Stands m g o (Ended e) = Cause u code m o g e
+  Stands m g o _ = ⊥
 
   last_is : (looks : Option ℕ) (k : ℕ) → is_last looks k ≡ true → looks ≡ Some k
   last_is None k e = absurd (cc e)
   last_is (Some last) k e = ap Some (sym (eqb-true k last e))
 
-  heed_sound : (o : Own) (again : Head) (x : ℕ) → Sound (Get Stop) (told x) o (heed_job again x)
-  heed_sound o again x = go (x == 0) refl
+  heed_sound : (o : Own) (again : Head) (x : ℕ) → is_last u.limits.looks o.counts.unready ≡ false → Sound (doing o (Make (Get Stop) (heed_job again))) (told x) o (heed_job again x)
+  heed_sound o again x more = go (x == 0) refl
     where
-      go : (b : Bool) → (x == 0) ≡ b → Sound (Get Stop) (told x) o (if b then Begin again else Ended (Stopped ((x - 1) % 2 ^ 32)))
+      go : (b : Bool) → (x == 0) ≡ b → Sound (doing o (Make (Get Stop) (heed_job again))) (told x) o (if b then Begin again else Ended (Stopped ((x - 1) % 2 ^ 32)))
       go true is = tt
-      go false is = let h : x ≡ 0 → ⊥ = eqb-false x 0 is in (refl, omega arith, refl)
+      go false is = let h : x ≡ 0 → ⊥ = eqb-false x 0 is in ((again, refl, more), omega arith, refl)
 
-  unready_sound : (o : Own) (a : Act) (g : Given) (again : Head) → Sound a g o (unready_job u again)
-  unready_sound o a g again = go (is_last u.limits.looks (looked_again o).counts.unready) refl
+  unready_sound : (o : Own) (m : Processor) (g : Given) (again : Head) → Sound m g o (unready_job u again)
+  unready_sound o m g again = go (is_last u.limits.looks (counted o Unready_looks).counts.unready) refl
     where
-      go : (b : Bool) → is_last u.limits.looks (looked_again o).counts.unready ≡ b → Sound a g (looked_again o) (if b then stop_job u Looked else Make (Get Stop) (heed_job again))
-      go true is = λ x. (refl, last_is u.limits.looks (looked_again o).counts.unready is)
-      go false is = λ x. heed_sound (looked_again o) again x
+      go : (b : Bool) → is_last u.limits.looks (counted o Unready_looks).counts.unready ≡ b → Sound m g (counted o Unready_looks) (if b then stop_job u Looked else Make (Get Stop) (heed_job again))
+      go true is = λ x. (refl, last_is u.limits.looks (counted o Unready_looks).counts.unready is)
+      go false is = λ x. heed_sound (counted o Unready_looks) again x is
 
-  tried_sound : (o : Own) (a : Act) (g : Given) (l : ℕ) (got : Got) → Sound a g o (tried_job u l got)
-  tried_sound o a g l (Ready c) = tt
-  tried_sound o a g l Unready = unready_sound o a g (Locking l)
+  tried_sound : (o : Own) (m : Processor) (g : Given) (l : ℕ) (got : Got) → Sound m g o (tried_job u l got)
+  tried_sound o m g l (Ready c) = tt
+  tried_sound o m g l Unready = unready_sound o m g (Locking l)
 
-  lock_sound : (o : Own) (l x : ℕ) (b : Bool) → Sound (Get (LockWord l)) (told x) o (call (if b then take_script l x else End Unready) (tried_job u l))
-  lock_sound o l x true = λ y. tried_sound o _ _ l (if y == x then Ready _ else Unready)
-  lock_sound o l x false = tried_sound o _ _ l Unready
+  lock_sound : (o : Own) (m : Processor) (l x : ℕ) (b : Bool) → Sound m (told x) o (call (if b then take_script l x else End Unready) (tried_job u l))
+  lock_sound o m l x true = λ y. tried_sound o _ _ l (if y == x then Ready _ else Unready)
+  lock_sound o m l x false = tried_sound o _ _ l Unready
 
-  passed_sound : (o : Own) (a : Act) (g : Given) (of : Counter) (need : ℕ) (got : Got) → Sound a g o (looked_job u of need got)
-  passed_sound o a g (Barrier b) need (Ready c) = tt
-  passed_sound o a g (Flag f) need (Ready c) = tt
-  passed_sound o a g Close need (Ready c) = (o.trace, c, refl)
-  passed_sound o a g of need Unready = unready_sound o a g (Looking of need)
+  passed_sound : (o : Own) (m : Processor) (g : Given) (of : Counter) (need : ℕ) (got : Got) → Sound m g o (looked_job u of need got)
+  passed_sound o m g (Barrier b) need (Ready c) = tt
+  passed_sound o m g (Flag f) need (Ready c) = tt
+  passed_sound o m g Close need (Ready c) = (o.trace, c, refl)
+  passed_sound o m g of need Unready = unready_sound o m g (Looking of need)
 
-  look_stands : (o : Own) (a : Act) (g : Given) (of : Counter) (need : ℕ) → Stands a g o (look_job u of need)
-  look_stands o a g of need = λ x. passed_sound o _ _ of need (if nat_le need x then Ready (count_of of need x) else Unready)
+  look_stands : (o : Own) (m : Processor) (g : Given) (of : Counter) (need : ℕ) → Stands m g o (look_job u of need)
+  look_stands o m g of need = λ x. passed_sound o _ _ of need (if nat_le need x then Ready (count_of of need x) else Unready)
 
-  action_stands : (o : Own) (a : Act) (g : Given) (act : Action) → next_action code (setting_of u) o.reader ≡ act → Stands a g o (action_job u o act)
-  action_stands o a g (Set d v) is = λ x. tt
-  action_stands o a g (Jump to) is = λ x. tt
-  action_stands o a g (LoadWord d w) is = λ x. tt
-  action_stands o a g (StoreWord w v) is = λ x. tt
-  action_stands o a g (Print v) is = λ x. tt
-  action_stands o a g (TakeLock l) is = λ x. lock_sound o l x (x % 2 == 0)
-  action_stands o a g (GiveLock l k) is = λ x. tt
-  action_stands o a g (Meet b) is = λ x. tt
-  action_stands o a g (RaiseFlag f) is = λ x. tt
-  action_stands o a g (WaitFlag f need) is = look_stands o a g (Flag f) need
-  action_stands o a g (Trap kind) is = let h = trap_cause code (setting_of u) o.reader kind is in λ x. (refl, (refl, h.0), h.1)
-  action_stands o a g Spend is = λ x. (refl, spend_cause code (setting_of u) o.reader is)
-  action_stands o a g Arrive is = λ x. tt
+  action_stands : (o : Own) (m : Processor) (g : Given) (act : Action) → next_action code (setting_of u) o.reader ≡ act → Stands m g o (action_job u o act)
+  action_stands o m g (Set d v) is = λ x. tt
+  action_stands o m g (Jump to) is = λ x. tt
+  action_stands o m g (LoadWord d w) is = λ x. tt
+  action_stands o m g (StoreWord w v) is = λ x. tt
+  action_stands o m g (Print v) is = λ x. tt
+  action_stands o m g (TakeLock l) is = λ x. lock_sound o _ l x (x % 2 == 0)
+  action_stands o m g (GiveLock l k) is = λ x. tt
+  action_stands o m g (Meet b) is = λ x. tt
+  action_stands o m g (RaiseFlag f) is = λ x. tt
+  action_stands o m g (WaitFlag f need) is = look_stands o m g (Flag f) need
+  action_stands o m g (Trap kind) is = let h = trap_cause code (setting_of u) o.reader kind is in λ x. (refl, (refl, h.0), h.1)
+  action_stands o m g Spend is = λ x. (refl, spend_cause code (setting_of u) o.reader is)
+  action_stands o m g Arrive is = λ x. tt
 
-  -- a processor that stands
-  abbrev At : Act → Given → Processor → Type 0
-  At a g m = Stands a g m.own m.todo
+  -- behind the event of processor m, given g, processor n stands
+  abbrev At : Processor → Given → Processor → Type 0
+  At m g n = Stands m g n.own n.todo
 
-  settled_at : (o : Own) (a : Act) (g : Given) (j : Job) → Stands a g o j → At a g (settled o j)
-  settled_at o a g (Make b k) h = h
-  settled_at o a g (Again b wanted j) h = h
-  settled_at o a g (Ended e) h = h
-  settled_at o a g (Mark n j) h = absurd h
-  settled_at o a g (Ask f) h = absurd h
-  settled_at o a g (Begin c) h = absurd h
+  settled_at : (o : Own) (m : Processor) (g : Given) (j : Job) → Stands m g o j → At m g (settled o j)
+  settled_at o m g (Make b k) h = h
+  settled_at o m g (Again b wanted j) h = h
+  settled_at o m g (Ended e) h = h
+  settled_at o m g (Mark n j) h = absurd h
+  settled_at o m g (Ask f) h = absurd h
+  settled_at o m g (Begin c) h = absurd h
 
-  head_at : (o : Own) (a : Act) (g : Given) (h : Head) → At a g (settled o (head_job u code h))
-  head_at o a g Instruction = let act = next_action code (setting_of u) o.reader in settled_at o a g (action_job u o act) (action_stands o a g act refl)
-  head_at o a g (Locking l) = λ x. lock_sound o l x (x % 2 == 0)
-  head_at o a g (Looking of need) = look_stands o a g of need
+  head_at : (o : Own) (m : Processor) (g : Given) (h : Head) → At m g (settled o (head_job u code h))
+  head_at o m g Instruction = let act = next_action code (setting_of u) o.reader in settled_at o m g (action_job u o act) (action_stands o m g act refl)
+  head_at o m g (Locking l) = λ x. lock_sound o _ l x (x % 2 == 0)
+  head_at o m g (Looking of need) = look_stands o m g of need
 
-  run_at : (j : Job) (o : Own) (a : Act) (g : Given) → Sound a g o j → At a g (run_on u code o j)
-  run_at (Make b k) o a g h = h
-  run_at (Again b wanted j) o a g h = h
-  run_at (Mark n j) o a g h = run_at j (own_after o n) a g h
-  run_at (Ask f) o a g h = run_at (f o) o a g h
-  run_at (Begin c) o a g h = head_at o a g c
-  run_at (Ended e) o a g h = h
+  run_at : (j : Job) (o : Own) (m : Processor) (g : Given) → Sound m g o j → At m g (run_on u code o j)
+  run_at (Make b k) o m g h = h
+  run_at (Again b wanted j) o m g h = h
+  run_at (Mark n j) o m g h = run_at j (own_after o n) m g h
+  run_at (Ask f) o m g h = run_at (f o) o m g h
+  run_at (Begin c) o m g h = head_at o m g c
+  run_at (Ended e) o m g h = h
 
-  cause_of : (a : Act) (g : Given) (o : Own) (j : Job) (e : Ending) → Stands a g o j → ending (record { own = o; todo = j }) ≡ Some e → Cause u code o a g e
-  cause_of a g o (Ended x) e h is = let same : x ≡ e = cc is in subst (Cause u code o a g) same h
-  cause_of a g o (Make b k) e h is = absurd (cc is)
-  cause_of a g o (Again b wanted j) e h is = absurd (cc is)
-  cause_of a g o (Mark n j) e h is = absurd h
-  cause_of a g o (Ask f) e h is = absurd h
-  cause_of a g o (Begin c) e h is = absurd h
+  cause_of : (m : Processor) (g : Given) (o : Own) (j : Job) (e : Ending) → Stands m g o j → ending (doing o j) ≡ Some e → Cause u code m o g e
+  cause_of m g o (Ended x) e h is = let same : x ≡ e = cc is in subst (Cause u code m o g) same h
+  cause_of m g o (Make b k) e h is = absurd (cc is)
+  cause_of m g o (Again b wanted j) e h is = absurd (cc is)
+  cause_of m g o (Mark n j) e h is = absurd h
+  cause_of m g o (Ask f) e h is = absurd h
+  cause_of m g o (Begin c) e h is = absurd h
 
   -- one event of a processor that has not ended
-  event_at : (a : Act) (h g : Given) (o : Own) (j : Job) → Stands a h o j → ending (record { own = o; todo = j }) ≡ None → (let m : Processor = record { own = o; todo = j } in At (first_act (wanting u g.starved m).todo) g (after_given u code m g))
-  event_at a h g o j stands runs = go g.starved refl j stands runs
+  event_at : (m : Processor) (h g : Given) (o : Own) (j : Job) → Stands m h o j → ending (doing o j) ≡ None → At (wanting u g.starved (doing o j)) g (after_given u code (doing o j) g)
+  event_at m h g o j stands runs = go g.starved refl j stands runs
     where
-      again : (b : Act) (wanted x : ℕ) (k : Job) → ((y : ℕ) → Sound b (told y) o k) → (t : Bool) → Sound b (told x) o (if t then k else Again b wanted k)
+      again : (b : Act) (wanted x : ℕ) (k : Job) → ((y : ℕ) → Sound (doing o (Again b wanted k)) (told y) o k) → (t : Bool) → Sound (doing o (Again b wanted k)) (told x) o (if t then k else Again b wanted k)
       again b wanted x k s true = s x
       again b wanted x k s false = s
 
-      go : (w : Bool) → g.starved ≡ w → (j : Job) → Stands a h o j → ending (record { own = o; todo = j }) ≡ None → (let m : Processor = record { own = o; todo = j } in At (first_act (wanting u w m).todo) g (run_on u code (wanting u w m).own (job_after (wanting u w m).todo g.got)))
-      go true is j s r = (refl, is)
-      go false is (Make b k) s r = run_at (k g.got) o b g (subst (λ w. Sound b (record { starved = w; got = g.got }) o (k g.got)) (sym is) (s g.got))
-      go false is (Again b wanted k) s r = run_at (if g.got == wanted then k else Again b wanted k) o b g (subst (λ w. Sound b (record { starved = w; got = g.got }) o (if g.got == wanted then k else Again b wanted k)) (sym is) (again b wanted g.got k s (g.got == wanted)))
-      go false is (Mark n k) s r = absurd s
-      go false is (Ask f) s r = absurd s
-      go false is (Begin c) s r = absurd s
-      go false is (Ended e) s r = absurd (cc r)
+      go : (w : Bool) → g.starved ≡ w → (j : Job) → Stands m h o j → ending (doing o j) ≡ None → At (wanting u w (doing o j)) g (run_on u code (wanting u w (doing o j)).own (job_after (wanting u w (doing o j)).todo g.got))
+      go true is (Make b k) s r = (refl, is)
+      go true is (Again b wanted k) s r = (refl, is)
+      go false is (Make b k) s r = run_at (k g.got) o (doing o (Make b k)) g (subst (λ w. Sound (doing o (Make b k)) (record { starved = w; got = g.got }) o (k g.got)) (sym is) (s g.got))
+      go false is (Again b wanted k) s r =
+          run_at (if g.got == wanted then k else Again b wanted k) o (doing o (Again b wanted k)) g
+          (subst (λ w. Sound (doing o (Again b wanted k)) (record { starved = w; got = g.got }) o (if g.got == wanted then k else Again b wanted k)) (sym is) (again b wanted g.got k s (g.got == wanted)))
+      go w is (Mark n k) s r = absurd s
+      go w is (Ask f) s r = absurd s
+      go w is (Begin c) s r = absurd s
+      go w is (Ended e) s r = absurd (cc r)
 
-  step_at : (a : Act) (h g : Given) (o : Own) (j : Job) → Stands a h o j → (b : Act) × (k : Given) × At b k (after_given u code (record { own = o; todo = j }) g)
-  step_at a h g o (Make b k) s = (b', g, event_at a h g o (Make b k) s refl)
+  step_at : (m : Processor) (h g : Given) (o : Own) (j : Job) → Stands m h o j → (n : Processor) × (k : Given) × At n k (after_given u code (doing o j) g)
+  step_at m h g o (Make b k) s = (wanting u g.starved (doing o (Make b k)), g, event_at m h g o (Make b k) s refl)
+  step_at m h g o (Again b wanted k) s = (wanting u g.starved (doing o (Again b wanted k)), g, event_at m h g o (Again b wanted k) s refl)
+  step_at m h g o (Ended e) s = go g.starved
     where
-      b' : Act
-      b' = first_act (wanting u g.starved (record { own = o; todo = Make b k })).todo
-  step_at a h g o (Again b wanted k) s = (b', g, event_at a h g o (Again b wanted k) s refl)
-    where
-      b' : Act
-      b' = first_act (wanting u g.starved (record { own = o; todo = Again b wanted k })).todo
-  step_at a h g o (Ended e) s = go g.starved refl
-    where
-      go : (w : Bool) → g.starved ≡ w → (let m = wanting u w (record { own = o; todo = Ended e }) in (b : Act) × (k : Given) × At b k (run_on u code m.own (job_after m.todo g.got)))
-      go true is = (first_act (starved_job u), g, (refl, is))
-      go false is = (a, h, s)
-  step_at a h g o (Mark n k) s = absurd s
-  step_at a h g o (Ask f) s = absurd s
-  step_at a h g o (Begin c) s = absurd s
+      go : (w : Bool) → (let n = wanting u w (doing o (Ended e)) in (b : Processor) × (k : Given) × At b k (run_on u code n.own (job_after n.todo g.got)))
+      go true = (m, h, s)
+      go false = (m, h, s)
+  step_at m h g o (Mark n k) s = absurd s
+  step_at m h g o (Ask f) s = absurd s
+  step_at m h g o (Begin c) s = absurd s
 
-  made_at : (gs : List Given) → (a : Act) × (h : Given) × At a h (processor_of u code gs)
+  made_at : (gs : List Given) → (m : Processor) × (h : Given) × At m h (processor_of u code gs)
   unfolding processor_of
-  made_at [] = (Get Stop, told 0, run_at (Begin Instruction) new_own (Get Stop) (told 0) tt)
+  made_at [] = (doing new_own (Begin Instruction), told 0, run_at (Begin Instruction) new_own (doing new_own (Begin Instruction)) (told 0) tt)
   made_at (g ∷ gs) = let x = made_at gs in let m = processor_of u code gs in step_at x.0 x.1 g m.own m.todo x.2
 
 pub every_end : EveryEndHasItsCause
@@ -223,4 +224,4 @@ every_end u code gs g e runs is =
     let x = made_at u code gs in
     let m = processor_of u code gs in
     let n = after_given u code m g in
-    cause_of u code (first_act (wanting u g.starved m).todo) g n.own n.todo e (event_at u code x.0 x.1 g m.own m.todo x.2 runs) is
+    cause_of u code (wanting u g.starved m) g n.own n.todo e (event_at u code x.0 x.1 g m.own m.todo x.2 runs) is

@@ -21,9 +21,9 @@ use Rattle.dsm_sync.specs.Counting.{count_of}
 use Rattle.dsm_sync.specs.Locks.{take_script}
 use Rattle.dsm_machine.specs.declared.head.Head.{Head}
 use Rattle.dsm_machine.specs.declared.head.Head.TheVariants.{Instruction, Locking, Looking}
-use Rattle.dsm_machine.specs.Own.{Own, Who, setting_of, new_own, looked_again}
-use Rattle.dsm_machine.specs.Jobs.{Job, Make, Again, Mark, Ask, Begin, Ended, call, own_after, job_after, end_of}
-use Rattle.dsm_machine.specs.Steps.{is_last, heed_job, stop_job, unready_job, tried_job, lock_job, looked_job, look_job, action_job, head_job}
+use Rattle.dsm_machine.specs.Own.{Own, Who, setting_of, new_own, Unready as Unready_looks, counted}
+use Rattle.dsm_machine.specs.Jobs.{Job, Make, Again, Mark, Ask, Begin, Ended, call, own_after, job_after, end_of, has_ended}
+use Rattle.dsm_machine.specs.Steps.{is_last, heed_job, stop_job, unready_job, tried_job, lock_job, looked_job, look_job, action_job, head_job, starved_job}
 use Rattle.dsm_machine.specs.Processors.{Processor, Given, settled, new_processor, run_on, ending, wanting, after_answer, processor_of, IsMade}
 use Rattle.dsm_machine.specs.Laws.{IsLocal, EveryTraceIsLocal}
 
@@ -83,12 +83,12 @@ module _ (u : Who) (code : List Instr) where
       go true = h
       go false = (w.0, w.1, w.3 ((x - 1) % 2 ^ 32))
 
-  unready_sound : (o : Own) (again : Head) → Waits o → AtHead (looked_again o) again → Sound o (unready_job u again)
-  unready_sound o again w h = go (is_last u.limits.looks (looked_again o).counts.unready)
+  unready_sound : (o : Own) (again : Head) → Waits o → AtHead (counted o Unready_looks) again → Sound o (unready_job u again)
+  unready_sound o again w h = go (is_last u.limits.looks (counted o Unready_looks).counts.unready)
     where
-      go : (b : Bool) → Sound (looked_again o) (if b then stop_job u Looked else Make (Get Stop) (heed_job again))
+      go : (b : Bool) → Sound (counted o Unready_looks) (if b then stop_job u Looked else Make (Get Stop) (heed_job again))
       go true = ((w.0, w.1), λ x. (w.0, w.1, w.2))
-      go false = ((w.0, w.1), λ x. heed_sound (looked_again o) again x w h)
+      go false = ((w.0, w.1), λ x. heed_sound (counted o Unready_looks) again x w h)
 
   tried_sound : (o : Own) (l : ℕ) (got : Got) → AtHead o (Locking l) → Sound o (tried_job u l got)
   tried_sound o l (Ready c) h = locks l c h.0 h.1
@@ -106,7 +106,7 @@ module _ (u : Who) (code : List Instr) where
   passed_sound o (Flag f) need x enough h = waits f need x h.0 h.1 enough
   passed_sound o Close need x enough h = (Passed, passes need h, tt)
 
-  look_again : (o : Own) (of : Counter) (need : ℕ) → AtHead o (Looking of need) → AtHead (looked_again o) (Looking of need)
+  look_again : (o : Own) (of : Counter) (need : ℕ) → AtHead o (Looking of need) → AtHead (counted o Unready_looks) (Looking of need)
   look_again o (Barrier b) need h = h
   look_again o (Flag f) need h = h
   look_again o Close need h = h
@@ -183,7 +183,11 @@ module _ (u : Who) (code : List Instr) where
   starved_may_end Passed = tt
 
   wanting_at : (starved : Bool) (m : Processor) → At m → At (wanting u starved m)
-  wanting_at true m h = (h.0, (h.0, λ x. (h.0.0, h.0.1, starved_may_end h.0.0)))
+  wanting_at true m h = go (has_ended m.todo)
+    where
+      go : (b : Bool) → At (record { own = m.own; todo = if b then m.todo else starved_job u })
+      go true = h
+      go false = (h.0, (h.0, λ x. (h.0.0, h.0.1, starved_may_end h.0.0)))
   wanting_at false m h = h
 
   processor_at : (gs : List Given) → At (processor_of u code gs)
@@ -223,7 +227,11 @@ unfolding IsMade
 IsMade-starved u code m made = (made.0, true, ap (wanting u true) made.2 ∙ wanting_twice made.1 (processor_of u code made.0))
   where
     wanting_twice : (starved : Bool) (n : Processor) → wanting u true (wanting u starved n) ≡ wanting u true n
-    wanting_twice true n = refl
+    wanting_twice true n = go (has_ended n.todo) refl
+      where
+        go : (b : Bool) → has_ended n.todo ≡ b → (let m : Processor = record { own = n.own; todo = if b then n.todo else starved_job u } in wanting u true m) ≡ record { own = n.own; todo = if b then n.todo else starved_job u }
+        go true ended = ap (λ b. record { own = n.own; todo = if b then n.todo else starved_job u }) ended
+        go false runs = refl
     wanting_twice false n = refl
 
 -- and one that was given a further answer

@@ -1,12 +1,12 @@
 -- Where a head's job begins.
-use Rattle.std.proofs.Common.{◌≡◌, ℕ, List, refl, ap}
+use Rattle.std.proofs.Common.{◌≡◌, ℕ, false, List, None, refl, ap, ◌∙◌}
 use Rattle.dsm_isa.specs.declared.instr.Instr.{Instr}
 use Rattle.dsm_local.specs.declared.action.Action.{Action}
 use Rattle.dsm_local.specs.declared.action.Action.TheVariants.{Set, Jump, LoadWord, StoreWord, Print, TakeLock, GiveLock, Meet, RaiseFlag, WaitFlag, Trap, Spend, Arrive}
 use Rattle.dsm_local.specs.Readers.{next_action}
 use Rattle.dsm_machine.specs.declared.head.Head.TheVariants.{Instruction, Locking, Looking}
 use Rattle.dsm_machine.specs.Own.{Own, Who, setting_of}
-use Rattle.dsm_machine.specs.Jobs.{Job, Make, Again, Mark, Ask, Begin, Ended, job_after}
+use Rattle.dsm_machine.specs.Jobs.{Job, Make, Again, Mark, Ask, Begin, Ended, job_after, end_of, has_ended}
 use Rattle.dsm_machine.specs.Steps.{action_job}
 use Rattle.dsm_machine.specs.Processors.{settled, begun, going_on, after_answer}
 
@@ -41,3 +41,32 @@ module _ (u : Who) (o : Own) where
   same_own code (Mark n j) = refl
   same_own code (Ask f) = refl
   same_own code (Ended e) = refl
+
+  -- no action has ended before its first operation
+  action_runs : (a : Action) → has_ended (action_job u o a) ≡ false
+  action_runs (Set d v) = refl
+  action_runs (Jump to) = refl
+  action_runs (LoadWord d w) = refl
+  action_runs (StoreWord w v) = refl
+  action_runs (Print v) = refl
+  action_runs (TakeLock l) = refl
+  action_runs (GiveLock l k) = refl
+  action_runs (Meet b) = refl
+  action_runs (RaiseFlag f) = refl
+  action_runs (WaitFlag f need) = refl
+  action_runs (Trap kind) = refl
+  action_runs Spend = refl
+  action_runs Arrive = refl
+
+  -- so a processor that has not ended has not where a head's job begins
+  pub still_runs : (code : List Instr) (j : Job) → end_of j ≡ None → has_ended (begun u code o j).todo ≡ false
+  still_runs code (Begin Instruction) runs =
+      let a = next_action code (setting_of u) o.reader in
+      ap (λ m. has_ended m.todo) (settled_action a) ∙ action_runs a
+  still_runs code (Begin (Locking l)) runs = refl
+  still_runs code (Begin (Looking of need)) runs = refl
+  still_runs code (Make a k) runs = refl
+  still_runs code (Again a wanted j) runs = refl
+  still_runs code (Mark n j) runs = refl
+  still_runs code (Ask f) runs = refl
+  still_runs code (Ended e) runs = absurd (cc runs)

@@ -1,5 +1,5 @@
 -- What a processor still has to do, as a script whose steps also look at what it holds and change it.
-use Rattle.std.specs.Prelude.{ℕ, ◌==◌, Bool, true, false, if◌then◌else◌, Option, None, Some}
+use Rattle.std.specs.Prelude.{ℕ, ◌==◌, Bool, true, false, if◌then◌else◌, List, Option, None, Some}
 use Rattle.dsm_entry.specs.declared.entry.Entry.{Entry}
 use Rattle.dsm_words.specs.declared.item.Item.TheVariants.{Stop, Turn, NoticeTurn}
 use Rattle.dsm_words.specs.Script.{Act, Get, Put, Script, End, Do, Until}
@@ -8,25 +8,48 @@ use Rattle.dsm_clock.specs.declared.turns.TurnId.TheVariants.{Page, Notices}
 use Rattle.dsm_local.specs.Readers.{given, jumped, moved}
 use Rattle.dsm_local.specs.declared.end.End.{End as Ending}
 use Rattle.dsm_machine.specs.declared.head.Head.{Head}
-use Rattle.dsm_machine.specs.Own.{Own, new_own, appended, looked_again}
+use Rattle.dsm_machine.specs.Own.{Own, Tally, new_own, appended, mapped, soiled, cleaned, joined, counted}
 
--- a change of what it holds, which ends an instruction (with v in register d; at place `to`; at the next place), or appends an entry, or counts an unready look
+-- a moment of which a law speaks: processor p has passed a lock, a barrier or a flag; the acquire behind its last pass is finished
+pub data Moment : Type 0 where
+  Passed : ℕ → Moment
+  Acquired : ℕ → Moment
+  deriving IsSet as Moment-set'
+
+-- What an event notes beside its operation. An instruction ends: register d gets v, and the next one comes;
+-- the one at place `to` comes; the next one comes.
 pub data Note : Type 0 where
   Give : ℕ → ℕ → Note
   Go : ℕ → Note
   Move : Note
+  -- an entry more
   Append : Entry → Note
-  Count_unready : Note
+  -- its mapping of page g becomes m
+  Map_own : ℕ → ℕ → Note
+  -- page g joins the dirty set; it leaves it; all pages of a set join it
+  Soil : ℕ → Note
+  Clean : ℕ → Note
+  Join : List ℕ → Note
+  -- one more of what is counted
+  Count : Tally → Note
+  -- a moment has come, which changes nothing
+  Happen : Moment → Note
 
--- what it holds behind a change
+-- what it holds behind a note
 abbrev pub own_after : Own → Note → Own
 own_after o (Give d v) = record o { reader = given o.reader d v }
 own_after o (Go to) = record o { reader = jumped o.reader to }
 own_after o Move = record o { reader = moved o.reader }
 own_after o (Append e) = appended o e
-own_after o Count_unready = looked_again o
+own_after o (Map_own g m) = mapped o g m
+own_after o (Soil g) = soiled o g
+own_after o (Clean g) = cleaned o g
+own_after o (Join set) = joined o set
+own_after o (Count t) = counted o t
+own_after o (Happen d) = o
 
--- a job: an operation and what follows its answer; an operation until it has the wanted answer; a change of what it holds and a look at what it holds then, both in the event of the operation before them; a head; the end
+-- a job: an operation and what follows its answer; an operation until it has the wanted answer; a note and a look at what it holds then,
+-- both in the event of the operation before them; a head; the end
 pub data Job : Type 0 where
   Make : Act → (ℕ → Job) → Job
   Again : Act → ℕ → Job → Job
@@ -78,7 +101,7 @@ has_ended _ = false
 
 -- the turn that a store gives back
 abbrev pub turn_back : Act → Option TurnId → Option TurnId
-turn_back (Put (Turn g) v) later = Some (Page g)
+turn_back (Put (Turn n g) v) later = Some (Page n g)
 turn_back (Put (NoticeTurn n) v) later = Some (Notices n)
 turn_back _ later = later
 

@@ -21,8 +21,8 @@ use Rattle.dsm_local.specs.declared.end.End.{End as Ending}
 use Rattle.dsm_local.specs.declared.end.End.TheVariants.{Halted, Trapped, Spent, Looked, Stopped, NoMemory}
 use Rattle.dsm_machine.specs.declared.head.Head.{Head}
 use Rattle.dsm_machine.specs.declared.head.Head.TheVariants.{Instruction, Locking, Looking}
-use Rattle.dsm_machine.specs.Own.{Own, Who, node_of, setting_of}
-use Rattle.dsm_machine.specs.Jobs.{Job, Make, Mark, Ask, Begin, Ended, Give, Go, Move, Append, Count_unready, call}
+use Rattle.dsm_machine.specs.Own.{Own, Who, Unready as Unready_looks, node_of, setting_of}
+use Rattle.dsm_machine.specs.Jobs.{Job, Make, Mark, Ask, Begin, Ended, Give, Go, Move, Append, Count, Happen, Passed, Acquired, call}
 
 -- the instruction is done, and the next one begins
 abbrev pub next_instruction : Job
@@ -32,12 +32,13 @@ next_instruction = Mark Move (Begin Instruction)
 abbrev pub stop_job : Who → Ending → Job
 stop_job u e = Make (Change Stop 0 (u.p + 1)) (λ _. Ended e)
 
--- a release, an acquire and the closing work, and then the rest: nothing is mapped yet, and all use the frames of one node, so that there is nothing to do
+-- a release, an acquire and the closing work, and then the rest: nothing is mapped yet, and all use the frames of one node, so that there is
+-- nothing to do; an acquire is finished at once
 abbrev pub release_job : Who → Job → Job
 release_job u rest = rest
 
 abbrev pub acquire_job : Who → Job → Job
-acquire_job u rest = rest
+acquire_job u rest = Mark (Happen (Acquired u.p)) rest
 
 abbrev pub closing_job : Who → Job → Job
 closing_job u rest = rest
@@ -57,11 +58,15 @@ heed_job again x = if x == 0 then Begin again else Ended (Stopped ((x - 1) % 2 ^
 
 -- an object was not ready: this is counted, and where it was the last look allowed, it stops; else it loads the stop word
 abbrev pub unready_job : Who → Head → Job
-unready_job u again = Mark Count_unready (Ask (λ o. if is_last u.limits.looks o.counts.unready then stop_job u Looked else Make (Get Stop) (heed_job again)))
+unready_job u again = Mark (Count Unready_looks) (Ask (λ o. if is_last u.limits.looks o.counts.unready then stop_job u Looked else Make (Get Stop) (heed_job again)))
+
+-- it passes an object with this count
+abbrev pub passes : Who → Obj → ℕ → Job → Job
+passes u o c rest = Mark (Append (Pass o c)) (Mark (Happen (Passed u.p)) rest)
 
 -- a try of lock l has found this
 abbrev pub tried_job : Who → ℕ → Got → Job
-tried_job u l (Ready c) = Mark (Append (Pass (LockOf l) c)) (acquire_job u next_instruction)
+tried_job u l (Ready c) = passes u (LockOf l) c (acquire_job u next_instruction)
 tried_job u l Unready = unready_job u (Locking l)
 
 -- lock l: it is tried until it is passed
@@ -86,7 +91,7 @@ passed_job u Close = closing_job u (Ended Halted)
 
 -- a look at a barrier or a flag has found this
 abbrev pub looked_job : Who → Counter → ℕ → Got → Job
-looked_job u of need (Ready c) = Mark (Append (Pass (object_of of) c)) (passed_job u of)
+looked_job u of need (Ready c) = passes u (object_of of) c (passed_job u of)
 looked_job u of need Unready = unready_job u (Looking of need)
 
 -- a barrier or a flag is looked at until it is passed

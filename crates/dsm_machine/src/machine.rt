@@ -88,6 +88,7 @@ impl Machine {
         ensures same { seen self.new ≡ seen self.old }
         ensures ok { OnOk result (0 < spare_of self.new) }
         ensures err { OnErr result (spare_of self.new ≡ spare_of self.old) }
+        ensures full { OnErr result (spare_of self.old ≡ 0) }
         ensures turn { OnErr result (held_turn (seen self.old).todo ≡ None) }
         ensures room { 0 < spare_of self.old → IsOk result }
         ensures spare { 0 < spare_of self.old → spare_of self.new ≡ spare_of self.old }

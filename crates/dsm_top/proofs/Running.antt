@@ -7,12 +7,13 @@ use Rattle.dsm_isa.specs.Limits.{IsWithinLimits}
 use Rattle.dsm_isa.specs.ProgramText.{ProgramText}
 use Rattle.dsm_isa.specs.Rules.{ObjectsInside}
 use Rattle.dsm_words.specs.declared.topology.Topology.{Topology}
+use Rattle.dsm_words.specs.Homes.{master}
 use Rattle.dsm_words.specs.Words.{word}
 use Rattle.dsm_machine.specs.declared.limits.Limits.{Limits}
 use Rattle.dsm_core.specs.Setups.{Setup, IsSetup, lay_in}
 use Rattle.dsm_core.specs.Clusters.{reached}
-use Rattle.dsm_core.specs.Outcomes.{Ran, master}
-use Rattle.dsm_core.specs.Promises.{EveryRunKeepsThem}
+use Rattle.dsm_core.specs.Outcomes.{Ran}
+use Rattle.dsm_core.specs.Promises.{EveryRunKeepsThem, OneNodeKeepsWords, AloneIsOrdered}
 use Rattle.dsm_core.specs.States.{setup_of}
 use Rattle.dsm_sched.specs.declared.kind.Kind.{Kind}
 use Rattle.dsm_sched.specs.Schedules.{Simulated}
@@ -20,24 +21,30 @@ use Rattle.dsm_top.specs.declared.plans.Plan.{Plan}
 use Rattle.dsm_top.specs.declared.plans.Plan.TheVariants.{Check, List as Listing, Sim}
 use Rattle.dsm_top.specs.declared.plans.Setting.{Setting}
 use Rattle.dsm_top.specs.declared.plans.Setting.TheVariants.{Kind as OfKind, Turns, Looks, Steps}
-use Rattle.dsm_top.specs.declared.plans.TheConstants.{MOST_TURNS}
 use Rattle.dsm_top.specs.Plans.{PlanOf, IsInRange, topology_word, turns_in}
 use Rattle.dsm_top.specs.Run.{IsRunnable, Runs}
+use Rattle.dsm_top.specs.Streams.{Reading}
 use Rattle.dsm_top.specs.Answer.{Answers, AskToRun, HasRun, ReadsProgram}
 
 -- there is a word for each address
 pub pages_many : (s : Setup) (kind : Kind) (steps : ℕ) (ran : Ran) (cut : Bool) → Simulated kind s steps ran cut → length ran.pages ≡ s.program.shape.pages * s.program.shape.words
 pages_many s kind steps ran cut h =
-    ap (λ r. length r.pages) (sym h.outcome.leaves) ∙ length-map-range_with_len (λ w. word (lay_in s) (reached s h.events).words (master s w)) 0 (s.program.shape.pages * s.program.shape.words)
+    ap (λ r. length r.pages) (sym h.outcome.leaves) ∙ length-map-range_with_len (λ w. word (lay_in s) (reached s h.events).words (master (lay_in s) (reached s h.events).words w)) 0 (s.program.shape.pages * s.program.shape.words)
 
 -- a simulated run is as promised
-pub runs_are : (t : Topology) (limits : Limits) (kind : Kind) (steps : ℕ) (p : ProgramText) (ran : Ran) (cut : Bool) → EveryRunKeepsThem → t.nodes ≡ 1 → IsSetup (setup_of p t limits) → Simulated kind (setup_of p t limits) steps ran cut → Runs t limits kind steps p ran
-runs_are t limits kind steps p ran cut law one setup h =
-    let promises = law (setup_of p t limits) h.events ran setup h.outcome in
-    record { cut = cut; simulated = h; promises = promises; flat = promises.flat one }
+pub runs_are : (t : Topology) (limits : Limits) (kind : Kind) (steps : ℕ) (p : ProgramText) (ran : Ran) (cut : Bool) → EveryRunKeepsThem → OneNodeKeepsWords → AloneIsOrdered → t.nodes ≡ 1 → IsSetup (setup_of p t limits) → Simulated kind (setup_of p t limits) steps ran cut → Runs t limits kind steps p ran
+runs_are t limits kind steps p ran cut runs words alone one setup h =
+    let s = setup_of p t limits in
+    record {
+      cut = cut;
+      simulated = h;
+      promises = runs s h.events ran setup h.outcome;
+      words = words s h.events ran setup one h.outcome;
+      alone = λ single. alone s h.events ran single h.outcome;
+    }
 
 -- the settings allow no more instructions than may be
-turns_most : (settings : List Setting) → All IsInRange settings → turns_in settings ≤ MOST_TURNS
+turns_most : (settings : List Setting) → All IsInRange settings → turns_in settings ≤ 1000000
 turns_most [] all = omega arith
 turns_most (Turns n ∷ settings) all = (All-head IsInRange (Turns n) settings all).1
 turns_most (OfKind kind ∷ settings) all = turns_most settings (All-tail IsInRange (OfKind kind) settings all)
@@ -49,7 +56,7 @@ pub runnable : (words : List (List ℕ)) (plan : Plan) (p : ProgramText) → Pla
 runnable words Check p asked sizes objects = tt
 runnable words Listing p asked sizes objects = tt
 runnable words (Sim t limits kind steps) p asked sizes objects =
-    let few : limits.turns ≤ MOST_TURNS = subst (λ n. n ≤ MOST_TURNS) (sym (ap (λ l. l.turns) asked.given_limits)) (turns_most asked.settings asked.set.in_range) in (
+    let few : limits.turns ≤ 1000000 = subst (λ n. n ≤ 1000000) (sym (ap (λ l. l.turns) asked.given_limits)) (turns_most asked.settings asked.set.in_range) in (
       asked.one_node,
       record { objects = objects; sizes = sizes; nodes = (t.some_nodes, t.most_nodes); procs = (t.some_procs, t.most_procs); all = t.most_all; turns = few },
     )
@@ -63,13 +70,13 @@ asked_to words Check p None bytes asked answers some = absurd (cc some)
 asked_to words Listing p None bytes asked answers some = absurd (cc some)
 
 -- and it is the run of the program that was read
-pub has_run : (words : List (List ℕ)) (old new : Option (List ℕ)) (plan : Plan) (p : ProgramText) (ran : Option Ran) (bytes : List ℕ) → PlanOf words plan → ReadsProgram old new p → Answers plan p ran bytes → IfSome ran (HasRun words old new)
-has_run words old new (Sim t limits kind steps) p (Some a) bytes asked read answers = record { t = t; limits = limits; kind = kind; steps = steps; asked = asked; program = p; read = read; runs = answers.0 }
-has_run words old new (Sim t limits kind steps) p None bytes asked read answers = tt
-has_run words old new Check p (Some a) bytes asked read answers = absurd (cc answers.0)
-has_run words old new Listing p (Some a) bytes asked read answers = absurd (cc answers.0)
-has_run words old new Check p None bytes asked read answers = tt
-has_run words old new Listing p None bytes asked read answers = tt
+pub has_run : (words : List (List ℕ)) (r : Reading) (plan : Plan) (p : ProgramText) (ran : Option Ran) (bytes : List ℕ) → PlanOf words plan → ReadsProgram r p → Answers plan p ran bytes → IfSome ran (HasRun words r)
+has_run words r (Sim t limits kind steps) p (Some a) bytes asked read answers = record { t = t; limits = limits; kind = kind; steps = steps; asked = asked; program = p; read = read; runs = answers.0 }
+has_run words r (Sim t limits kind steps) p None bytes asked read answers = tt
+has_run words r Check p (Some a) bytes asked read answers = absurd (cc answers.0)
+has_run words r Listing p (Some a) bytes asked read answers = absurd (cc answers.0)
+has_run words r Check p None bytes asked read answers = tt
+has_run words r Listing p None bytes asked read answers = tt
 
 -- and there is one where they do
 pub has_ran : (words : List (List ℕ)) (plan : Plan) (p : ProgramText) (ran : Option Ran) (bytes : List ℕ) → PlanOf words plan → Answers plan p ran bytes → AskToRun words → IsSome ran

@@ -26,7 +26,7 @@ pub spells_one : NumbersAsPrinted → (word : List ℕ) (n : ℕ) → number_of 
 spells_one law word n some = ((law word n).0 some).1
 
 -- no number has an x
-no_x : (n : ℕ) → n < 2 ^ 64 → (i : ℕ) → i < length (decimal n) → get_or (decimal n) i 0 ≢ 120
+pub no_x : (n : ℕ) → n < 2 ^ 64 → (i : ℕ) → i < length (decimal n) → get_or (decimal n) i 0 ≢ 120
 no_x n small i inside is = let range = digit_at (decimal n) i ((decimal_is_IsNumeral n small).0.1) inside in omega (arith, range, is)
 
 -- a topology's word is cut at the x

@@ -12,7 +12,6 @@ use Rattle.dsm_top.specs.declared.plans.Plan.{Plan}
 use Rattle.dsm_top.specs.declared.plans.Plan.TheVariants.{Check, List as Listing, Sim}
 use Rattle.dsm_top.specs.declared.plans.Setting.{Setting}
 use Rattle.dsm_top.specs.declared.plans.Setting.TheVariants.{Kind as OfKind, Turns, Looks, Steps}
-use Rattle.dsm_top.specs.declared.plans.TheConstants.{MOST_TURNS, DEFAULT_TURNS, MOST_LOOKS, DEFAULT_LOOKS, MOST_STEPS, DEFAULT_STEPS}
 
 -- the bytes of each word
 abbrev pub texts : List (String Global) → List (List ℕ)
@@ -44,12 +43,12 @@ value_of (Steps n) = decimal n
 abbrev pub word_of : Setting → List ℕ
 word_of setting = name_of setting ++ codes "=" ++ value_of setting
 
--- the value is one that it may have
+-- the value is one that it may have: 1 to 1,000,000 instructions, to 1,000,000,000 looks, to 1,000,000,000,000 events
 abbrev pub IsInRange : Setting → Type 0
 IsInRange (OfKind kind) = Unit {0}
-IsInRange (Turns n) = IsFrom1To MOST_TURNS n
-IsInRange (Looks n) = IsFrom1To MOST_LOOKS n
-IsInRange (Steps n) = IsFrom1To MOST_STEPS n
+IsInRange (Turns n) = IsFrom1To 1000000 n
+IsInRange (Looks n) = IsFrom1To 1000000000 n
+IsInRange (Steps n) = IsFrom1To 1000000000000 n
 
 -- the words are these settings, each in its range, and no two of the same name
 pub record AreSettings (words : List (List ℕ)) (settings : List Setting) : Type 0 where
@@ -74,18 +73,18 @@ abbrev pub steps_of : Setting → Option ℕ
 steps_of (Steps n) = Some n
 steps_of _ = None
 
--- what the settings give, or the default where none does
+-- what the settings give, or the default where none does: 200,000 instructions, 50,000,000 looks, 100,000,000 events
 abbrev pub kind_in : List Setting → Kind
 kind_in settings = slice_index_or (filter_map kind_of settings) 0 Round
 
 abbrev pub turns_in : List Setting → ℕ
-turns_in settings = slice_index_or (filter_map turns_of settings) 0 DEFAULT_TURNS
+turns_in settings = slice_index_or (filter_map turns_of settings) 0 200000
 
 abbrev pub looks_in : List Setting → ℕ
-looks_in settings = slice_index_or (filter_map looks_of settings) 0 DEFAULT_LOOKS
+looks_in settings = slice_index_or (filter_map looks_of settings) 0 50000000
 
 abbrev pub steps_in : List Setting → ℕ
-steps_in settings = slice_index_or (filter_map steps_of settings) 0 DEFAULT_STEPS
+steps_in settings = slice_index_or (filter_map steps_of settings) 0 100000000
 
 -- the words are `sim`, a cluster of one node and settings, which give these limits
 pub record AskForSim (words : List (List ℕ)) (t : Topology) (limits : Limits) (kind : Kind) (steps : ℕ) : Type 0 where
@@ -103,6 +102,10 @@ abbrev pub PlanOf : List (List ℕ) → Plan → Type 0
 PlanOf words Check = words ≡ codes "check" ∷ []
 PlanOf words Listing = words ≡ codes "list" ∷ []
 PlanOf words (Sim t limits kind steps) = AskForSim words t limits kind steps
+
+-- words ask for one plan at most
+abbrev pub AskForOnePlan : Type 0
+AskForOnePlan = (words : List (List ℕ)) (p q : Plan) → PlanOf words p → PlanOf words q → p ≡ q
 
 -- some plan's words begin with these
 abbrev pub BeginsPlan : List (List ℕ) → Type 0

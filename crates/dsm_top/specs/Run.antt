@@ -1,11 +1,12 @@
 -- A run of a program, as the top call answers it.
-use Rattle.std.specs.Prelude.{◌≡◌, ℕ, Bool}
+use Rattle.std.specs.Prelude.{◌≡◌, ℕ, ◌*◌, Bool}
 use Rattle.dsm_isa.specs.ProgramText.{ProgramText}
 use Rattle.dsm_words.specs.declared.topology.Topology.{Topology}
 use Rattle.dsm_machine.specs.declared.limits.Limits.{Limits}
+use Rattle.dsm_flat.specs.Flat.{Ordered}
 use Rattle.dsm_core.specs.Outcomes.{Ran}
 use Rattle.dsm_core.specs.Setups.{IsSetup}
-use Rattle.dsm_core.specs.Promises.{IsFlatWord, Promises}
+use Rattle.dsm_core.specs.Promises.{Promises, WordPromise}
 use Rattle.dsm_core.specs.States.{setup_of}
 use Rattle.dsm_sched.specs.declared.kind.Kind.{Kind}
 use Rattle.dsm_sched.specs.Schedules.{Simulated}
@@ -18,13 +19,11 @@ IsRunnable Check p = Unit {0}
 IsRunnable Listing p = Unit {0}
 IsRunnable (Sim t limits kind steps) p = (t.nodes ≡ 1) × IsSetup (setup_of p t limits)
 
--- each word is as a flat memory has it
-abbrev pub AllFlat : Topology → Limits → ProgramText → Ran → Type 0
-AllFlat t limits p ran = (w : ℕ) → IsFlatWord (setup_of p t limits) ran w
-
--- this is what a run of the program by the schedule left; it is as promised of every run, and each word is flat
+-- this is what a run of the program by the schedule left; it is as promised of every run, and of each of its words; and where a processor is
+-- alone, each word is ordered
 pub record Runs (t : Topology) (limits : Limits) (kind : Kind) (steps : ℕ) (p : ProgramText) (ran : Ran) : Type 0 where
   pub cut : Bool
   pub simulated : Simulated kind (setup_of p t limits) steps ran cut
   pub promises : Promises (setup_of p t limits) ran
-  pub flat : AllFlat t limits p ran
+  pub words : (w : ℕ) → WordPromise (setup_of p t limits) ran w
+  pub alone : t.nodes * t.procs ≡ 1 → (w : ℕ) → Ordered ran.traces w

@@ -6,7 +6,7 @@ ghost use Rattle.dsm_top.specs.Answer.{Answers};
 
 use crate::plans::Plan;
 use crate::reporting::report;
-use dsm_core::laws::one_node_law;
+use dsm_core::laws::{one_node_law, run_law};
 use dsm_core::ran::Ran;
 use dsm_entry::entry::NoMemory;
 use dsm_isa::program::Program;
@@ -61,6 +61,7 @@ fn run_and_report(
     requires setup { IsSetup (setup_of program.now t limits) }
     ensures { IfOk result (λ a. Answers (Plan.Sim t limits kind steps) program.now a.ran a.text.items) }
 {
+    run_law();
     one_node_law();
     let ran = sim(alloc, program, t, limits, kind, steps)?.ran;
     let text = report(alloc, t, program.shape(), &ran)?;

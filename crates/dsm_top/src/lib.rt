@@ -2,6 +2,8 @@
 #![tactic(auto)]
 
 pub mod answering;
+pub mod command_line;
+pub mod laws;
 pub mod planning;
 pub mod plans;
 pub mod reading;

@@ -1,5 +1,6 @@
-ghost use Rattle.std.specs.Prelude.{IfOk, IfErr};
+ghost use Rattle.std.specs.Prelude.{◌≡◌, ◌≢◌, Err, IfOk, IfErr};
 ghost use Rattle.dsm_top.specs.Answer.{ReadsProgram, IsUnread};
+ghost use Rattle.dsm_top.specs.Streams.{reading};
 
 use dsm_asm::assembler::assemble;
 use dsm_asm::fault::{AsmErr, AsmFault};
@@ -25,8 +26,9 @@ pub enum Unread {
 
 /// The program whose text the source has to its end.
 pub fn read_program<S: Source>(alloc: Global, source: &mut S) -> Result<Program, Unread>
-    ensures program { IfOk result (ReadsProgram (S.left source.old) (S.left source.new)) }
-    ensures unread { IfErr result (IsUnread (S.left source.old) (S.left source.new) (S.faults source.old) (S.faults source.new)) }
+    ensures program { IfOk result (ReadsProgram (reading S.left S.faults source.old source.new)) }
+    ensures unread { IfErr result (IsUnread (reading S.left S.faults source.old source.new)) }
+    ensures well { result ≢ Err Unread.Fault → S.faults source.new ≡ S.faults source.old }
 {
     let text = match read_all(alloc, source, MOST_TEXT) {
         Ok(text) => text,

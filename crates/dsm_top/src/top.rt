@@ -1,12 +1,11 @@
-ghost use Rattle.std.specs.Prelude.{◌≡◌, ℕ, ◌≤◌, ◌⊎◌, ◌↔◌, List, IsSome, IsSomeAnd, IfSome, None};
-ghost use Rattle.std.specs.Io.KnownBytes.{Appends};
+ghost use Rattle.std.specs.Prelude.{◌≡◌, ◌≢◌, ℕ, ◌≤◌, ◌⊎◌, ◌↔◌, List, IsSome, IsSomeAnd, IfSome, None};
 ghost use Rattle.dsm_io.specs.Faults.{Rose};
-ghost use Rattle.dsm_io.specs.Whole.{AppendsPrefix};
 ghost use Rattle.dsm_core.specs.Outcomes.{AllHalted, SomeWants};
 ghost use Rattle.dsm_top.specs.declared.plans.Plan.{Plan as plan_of_words};
 ghost use Rattle.dsm_top.specs.Plans.{texts, PlanOf, FirstFault};
 ghost use Rattle.dsm_top.specs.Report.{refused_word, refused_line, kind_name as name_of_kind};
 ghost use Rattle.dsm_top.specs.Answer.{RefusesAndWrites, WritesLine, Accepts, AskToRun, HasRun};
+ghost use Rattle.dsm_top.specs.Streams.{reading, writing, WritesAll, WritesPrefix};
 
 use crate::answering::{Answer, answer_to};
 use crate::planning::plan;
@@ -43,30 +42,32 @@ pub fn still<S: Source, K: Sink>(
     // the first faulty word is written.
     ensures words { (result.status ≡ 2) ↔ ((p : plan_of_words) → PlanOf (texts words.now) p → ⊥) }
     ensures words_line { result.status ≡ 2 → (k : ℕ) × FirstFault (texts words.now) k
-        × WritesLine (K.written sink.old) (K.written sink.new) (K.faults sink.old) (K.faults sink.new) (refused_word k) }
+        × WritesLine (writing K.written K.handed K.faults sink.old sink.new) (refused_word k) }
     ensures words_unread { result.status ≡ 2 → source.new ≡ source.old }
 
     // Status 3 where the text is too long or has a fault. The line with its first fault is written.
-    ensures text { result.status ≡ 3 → RefusesAndWrites (S.left source.old) (S.left source.new)
-        (K.written sink.old) (K.written sink.new) (K.faults sink.old) (K.faults sink.new) }
+    ensures text { result.status ≡ 3 → RefusesAndWrites (reading S.left S.faults source.old source.new)
+        (writing K.written K.handed K.faults sink.old sink.new) }
 
-    // Status 4 only where a read failed, and 6 for want of memory. Nothing is written then.
+    // Status 4 only where a read failed, and all others only where none did: so 6, for want of memory. Nothing is
+    // written at 4 and 6.
     ensures read_fault { result.status ≡ 4 → Rose (S.faults source.old) (S.faults source.new) }
+    ensures read_well { result.status ≢ 4 → S.faults source.new ≡ S.faults source.old }
     ensures unwritten { (result.status ≡ 4) ⊎ (result.status ≡ 6) → sink.new ≡ sink.old }
 
     // In all other cases the text was read whole, has no fault, and the answer of the plan to its program
-    // was made. It was written, but for status 5, which comes only where a write failed: then a prefix was.
+    // was made. It was written and handed on, but for status 5, which comes only where a write or the finish failed:
+    // then a prefix was written.
     ensures whole { (result.status ≡ 0) ⊎ (result.status ≡ 1) ⊎ (result.status ≡ 7) → (bytes : List ℕ)
-        × Accepts (texts words.now) (S.left source.old) (S.left source.new) result.ran bytes
-        × Appends (K.written sink.old) (K.written sink.new) bytes }
+        × Accepts (texts words.now) (reading S.left S.faults source.old source.new) result.ran bytes
+        × WritesAll (writing K.written K.handed K.faults sink.old sink.new) bytes }
     ensures prefix { result.status ≡ 5 → (bytes : List ℕ)
-        × Accepts (texts words.now) (S.left source.old) (S.left source.new) result.ran bytes
-        × AppendsPrefix (K.written sink.old) (K.written sink.new) bytes }
-    ensures write_fault { result.status ≡ 5 → Rose (K.faults sink.old) (K.faults sink.new) }
+        × Accepts (texts words.now) (reading S.left S.faults source.old source.new) result.ran bytes
+        × WritesPrefix (writing K.written K.handed K.faults sink.old sink.new) bytes }
 
     // Where the words ask to run the program, it was run by the schedule, and the run is as promised.
     ensures ran { IsSome result.ran ↔ (AskToRun (texts words.now) × ((result.status ≡ 0) ⊎ (result.status ≡ 1) ⊎ (result.status ≡ 5) ⊎ (result.status ≡ 7))) }
-    ensures run { IfSome result.ran (HasRun (texts words.now) (S.left source.old) (S.left source.new)) }
+    ensures run { IfSome result.ran (HasRun (texts words.now) (reading S.left S.faults source.old source.new)) }
     // Status 0 where all processors halted, 7 where one ended for want of memory, and else 1.
     ensures halted { result.status ≡ 0 → IfSome result.ran (λ a. AllHalted a.ends) }
     ensures wanted { result.status ≡ 7 → IsSomeAnd result.ran (λ a. SomeWants a.ends) }
@@ -96,9 +97,8 @@ fn finish<K: Sink>(sink: &mut K, answer: Answer) -> Done
     ensures halted { result.status ≡ 0 → IfSome answer.ran (λ a. AllHalted a.ends) }
     ensures wanted { result.status ≡ 7 → IsSomeAnd answer.ran (λ a. SomeWants a.ends) }
     ensures stopped { result.status ≡ 1 → IsSomeAnd answer.ran (λ a. (AllHalted a.ends → ⊥) × (SomeWants a.ends → ⊥)) }
-    ensures whole { (result.status ≡ 0) ⊎ (result.status ≡ 1) ⊎ (result.status ≡ 7) → Appends (K.written sink.old) (K.written sink.new) answer.text.items }
-    ensures prefix { result.status ≡ 5 → AppendsPrefix (K.written sink.old) (K.written sink.new) answer.text.items }
-    ensures write_fault { result.status ≡ 5 → Rose (K.faults sink.old) (K.faults sink.new) }
+    ensures whole { (result.status ≡ 0) ⊎ (result.status ≡ 1) ⊎ (result.status ≡ 7) → WritesAll (writing K.written K.handed K.faults sink.old sink.new) answer.text.items }
+    ensures prefix { result.status ≡ 5 → WritesPrefix (writing K.written K.handed K.faults sink.old sink.new) answer.text.items }
 {
     let status = match write_all(sink, answer.text.as_slice()) {
         Err(_) => 5,
@@ -129,7 +129,7 @@ fn ending(answer: &Answer) -> u8
 fn refuse<K: Sink>(sink: &mut K, line: &Line, status: u8) -> Done
     ensures status { result.status ≡ status }
     ensures ran { result.ran ≡ None }
-    ensures line { WritesLine (K.written sink.old) (K.written sink.new) (K.faults sink.old) (K.faults sink.new) line.now.bytes }
+    ensures line { WritesLine (writing K.written K.handed K.faults sink.old sink.new) line.now.bytes }
 {
     let _ = write_all(sink, line.as_str().as_bytes());
     without_run(status)
@@ -139,7 +139,7 @@ fn refuse<K: Sink>(sink: &mut K, line: &Line, status: u8) -> Done
 fn refuse_fault<K: Sink>(sink: &mut K, fault: AsmFault) -> Done
     ensures status { result.status ≡ 3 }
     ensures ran { result.ran ≡ None }
-    ensures line { WritesLine (K.written sink.old) (K.written sink.new) (K.faults sink.old) (K.faults sink.new) (refused_line fault.line (name_of_kind fault.kind)) }
+    ensures line { WritesLine (writing K.written K.handed K.faults sink.old sink.new) (refused_line fault.line (name_of_kind fault.kind)) }
 {
     refuse(
         sink,

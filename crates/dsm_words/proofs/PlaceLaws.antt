@@ -4,7 +4,7 @@ use Rattle.std.proofs.lemmas.Nat.{mul-add-lt, div-mul-add, mod-mul-add}
 use Rattle.std.proofs.Math.Nat.{mul_comm}
 use Rattle.std.proofs.lemmas.Bool.{cases_lt}
 use Rattle.dsm_words.specs.declared.item.Item.{Item}
-use Rattle.dsm_words.specs.declared.item.Item.TheVariants.{Stop, Frame, Twin, Twined, Map, Dir, Update, Flush, Notice, Clock, Turn, NoticeTurn, Global, Own, Nle, Lock, Barrier, Flag, Close}
+use Rattle.dsm_words.specs.declared.item.Item.TheVariants.{Stop, Frame, Twin, Twined, Map, Dir, Update, Flush, Notice, Clock, Turn, NoticeTurn, Global, Own, Nle, Lock, Barrier, Flag, Close, Home}
 use Rattle.dsm_words.specs.Place.{Lay, IsWithin, processors, groups, sizes, block, offset, start, place, all_of, total}
 
 row : (a w b h : ℕ) → a < h → b < w → a * w + b < h * w
@@ -22,7 +22,7 @@ offset_below l (Update n g) w = row n l.pages g l.nodes w.0 w.1
 offset_below l (Flush n g) w = row n l.pages g l.nodes w.0 w.1
 offset_below l (Notice n g) w = row n l.pages g l.nodes w.0 w.1
 offset_below l (Clock n) w = w
-offset_below l (Turn g) w = w
+offset_below l (Turn n g) w = row n l.pages g l.nodes w.0 w.1
 offset_below l (NoticeTurn n) w = w
 offset_below l (Global n m k) w = row (n * l.nodes + m) (groups l) k (l.nodes * l.nodes) (row n l.nodes m l.nodes w.0 w.1) w.2
 offset_below l (Own p k) w = row p (groups l) k (processors l) w.0 w.1
@@ -31,6 +31,7 @@ offset_below l (Lock i) w = w
 offset_below l (Barrier b) w = w
 offset_below l (Flag f) w = w
 offset_below l Close w = omega arith
+offset_below l (Home g) w = w
 
 -- blocks follow one another
 start_inside : (ss : List ℕ) (k o : ℕ) → o < get_or ss k 0 → start ss k + o < all_of ss
@@ -45,19 +46,6 @@ starts_apart (s ∷ ss) zero (suc k) o q lt h = omega arith
 starts_apart (s ∷ ss) (suc j) (suc k) o q lt h =
     let below : j < k = omega arith in
     omega (arith, starts_apart ss j k o q below h)
-
--- a block begins where the one before it ends
-start_zero : (ss : List ℕ) → start ss 0 ≡ 0
-start_zero [] = refl
-start_zero (s ∷ ss) = refl
-
-start_suc : (ss : List ℕ) (k : ℕ) → start ss (suc k) ≡ start ss k + get_or ss k 0
-start_suc [] k = refl
-start_suc (s ∷ ss) zero = omega (arith, start_zero ss)
-start_suc (s ∷ ss) (suc k) = omega (arith, start_suc ss k)
-
-pub start_next : (ss : List ℕ) (k : ℕ) → start ss (k + 1) ≡ start ss k + get_or ss k 0
-start_next ss k = let e : k + 1 ≡ suc k = omega arith in rw e (start_suc ss k)
 
 pub place_below : (l : Lay) (it : Item) → IsWithin l it → place l it < total l
 place_below l it w = start_inside (sizes l) (block it) (offset l it) (offset_below l it w)
@@ -75,7 +63,7 @@ items_at l o =
     ∷ Flush (o / l.pages) (o % l.pages)
     ∷ Notice (o / l.pages) (o % l.pages)
     ∷ Clock o
-    ∷ Turn o
+    ∷ Turn (o / l.pages) (o % l.pages)
     ∷ NoticeTurn o
     ∷ Global (o / groups l / l.nodes) (o / groups l % l.nodes) (o % groups l)
     ∷ Own (o / groups l) (o % groups l)
@@ -84,6 +72,7 @@ items_at l o =
     ∷ Barrier o
     ∷ Flag o
     ∷ Close
+    ∷ Home o
     ∷ []
 
 -- the item at a place of a block
@@ -109,7 +98,7 @@ decoded l (Update n g) w = pair_back Item Update n l.pages g w.1
 decoded l (Flush n g) w = pair_back Item Flush n l.pages g w.1
 decoded l (Notice n g) w = pair_back Item Notice n l.pages g w.1
 decoded l (Clock n) w = refl
-decoded l (Turn g) w = refl
+decoded l (Turn n g) w = pair_back Item Turn n l.pages g w.1
 decoded l (NoticeTurn n) w = refl
 decoded l (Global n m k) w = triple_back Item Global n l.nodes m (groups l) k w.1 w.2
 decoded l (Own p k) w = pair_back Item Own p (groups l) k w.1
@@ -118,6 +107,7 @@ decoded l (Lock i) w = refl
 decoded l (Barrier b) w = refl
 decoded l (Flag f) w = refl
 decoded l Close w = refl
+decoded l (Home g) w = refl
 
 same_block : (l : Lay) (a b : Item) → IsWithin l a → IsWithin l b → block a ≡ block b → place l a ≡ place l b → a ≡ b
 same_block l a b v w e p =

@@ -1,8 +1,13 @@
+pub mod Answered
+pub mod Changes
 pub mod Counts
+pub mod Homes
 pub mod Laws
 pub mod ListLaw
 pub mod ListLaws
 pub mod Op
+pub mod Pages
+pub mod Parts
 pub mod Place
 pub mod Script
 pub mod Words

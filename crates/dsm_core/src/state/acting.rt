@@ -6,7 +6,7 @@ ghost use Rattle.dsm_words.specs.Place.{total};
 ghost use Rattle.dsm_words.specs.Words.{done, reply};
 ghost use Rattle.dsm_machine.specs.Jobs.{first_act, held_turn};
 ghost use Rattle.dsm_machine.specs.Processors.{ending, after_answer, wanting as wanting_if};
-ghost use Rattle.dsm_machine.specs.Machines.{who, seen, processor_in, sizes_in, HasRoom};
+ghost use Rattle.dsm_machine.specs.Machines.{who, seen, processor_in, spare_of, sizes_in, HasRoom};
 
 use dsm_isa::code::Code;
 use dsm_machine::machine::Machine;
@@ -18,6 +18,7 @@ pub(crate) fn starves(machine: &mut Machine) -> bool
     requires { ending (seen machine.old) ≡ None }
     ensures who { who machine.new ≡ who machine.old }
     ensures wanting { (code : List Instr) → processor_in machine.new code ≡ wanting_if (who machine.old) result (processor_in machine.old code) }
+    ensures full { IsTrue result → spare_of machine.old ≡ 0 }
     ensures turn { IsTrue result → (code : List Instr) → held_turn (processor_in machine.old code).todo ≡ None }
     ensures runs { ending (seen machine.new) ≡ None }
     ensures room { HasRoom machine.new }

@@ -5,7 +5,6 @@ ghost use Rattle.dsm_isa.specs.ProgramText.{ProgramText};
 ghost use Rattle.dsm_machine.specs.Machines.{processor_in};
 
 use super::State;
-use crate::homes::master;
 use crate::ran::Ran;
 use dsm_entry::entry::NoMemory;
 use dsm_entry::trace::Trace;
@@ -25,7 +24,7 @@ impl State {
     /// What the state leaves. The traces are moved and not copied.
     pub fn into_ran(self, alloc: Global) -> Result<Ran, NoMemory>
         ensures shows { IfOk result (λ ran. (program : ProgramText) → IsFor self program → ran ≡ ran_of (setup_in self program) (cluster_in self program.code)) }
-        // Of a reached state all promises hold.
+        // Of a reached state the promises hold that every cluster keeps.
         ensures promises { IfOk result (λ ran. (program : ProgramText) → IsFor self program → IsSetup (setup_in self program) → IsReached (setup_in self program) (cluster_in self program.code) → Promises (setup_in self program) ran) }
     {
         let pages = self.pages(alloc)?;
@@ -47,7 +46,7 @@ impl State {
         let size = self.lay.pages * self.lay.words;
         let mut pages = Vec::with_capacity(alloc, size as usize)?;
         for w in 0..size {
-            pages.push(self.words[master(&self.lay, w)])?;
+            pages.push(self.words[self.lay.master(&self.words, w) as usize])?;
         }
         Ok(pages)
     }

@@ -1,16 +1,15 @@
 // The state before any event.
-ghost use Rattle.std.specs.Prelude.{◌≡◌, ℕ, List, Some, IfOk, map, length, slice_get};
+ghost use Rattle.std.specs.Prelude.{◌≡◌, ℕ, ◌∷◌, List, Some, IfOk, map, flat_map, length, slice_get};
 ghost use Rattle.std.specs.List.{range_with_len};
 ghost use Rattle.dsm_isa.specs.declared.instr.Instr.{Instr};
 ghost use Rattle.dsm_words.specs.Place.{lay_of, processors, total};
 ghost use Rattle.dsm_machine.specs.declared.machine.Machine.{Machine as machine};
 ghost use Rattle.dsm_machine.specs.Machines.{who, processor_in, sizes_in};
 ghost use Rattle.dsm_machine.specs.Processors.{new_processor};
-ghost use Rattle.dsm_core.specs.Setups.{first_words as first_words_of};
+ghost use Rattle.dsm_core.specs.Setups.{first_words as first_words_of, frames_of};
 ghost use Rattle.dsm_core.specs.States.{setup_of};
 
 use super::State;
-use crate::homes::master;
 use dsm_entry::entry::NoMemory;
 use dsm_isa::program::Program;
 use dsm_machine::limits::Limits;
@@ -56,19 +55,43 @@ impl State {
     }
 }
 
-/// The words at the start. Memory is taken once, and the time grows with the number of words.
+/// The frames of one node at the start: the program's values, and 0 where it names none.
+fn first_frames(alloc: Global, program: &Program, lay: &Layout) -> Result<Vec<u64>, NoMemory>
+    requires { sizes_in (lay_of lay.now) ≡ program.now.shape }
+    ensures { IfOk result (λ frames. frames.items ≡ frames_of (lay_of lay.now) program.now.init) }
+{
+    let size = (lay.pages * lay.words) as usize;
+    let mut frames = Vec::with_capacity(alloc, size)?;
+    frames.resize(size, 0)?;
+    for word in program.init() {
+        frames[word.0 as usize] = word.1;
+    }
+    Ok(frames)
+}
+
+/// The stop word, and these frames for each node; there is room for all other words.
+fn with_frames(alloc: Global, lay: &Layout, frames: &[u64]) -> Result<Vec<u64>, NoMemory>
+    ensures { IfOk result (λ words. words.items ≡ 0 ∷ flat_map (λ n. frames.now) (range_with_len 0 lay.now.t.nodes)) }
+{
+    let mut words = Vec::with_capacity(alloc, lay.len() as usize)?;
+    words.push(0)?;
+    for _ in 0..lay.t.nodes {
+        words.extend_from_slice(frames)?;
+    }
+    Ok(words)
+}
+
+/// The words at the start. The time grows with the number of words.
 fn first_words(alloc: Global, program: &Program, lay: &Layout) -> Result<Vec<u64>, NoMemory>
     requires { sizes_in (lay_of lay.now) ≡ program.now.shape }
     ensures long { IfOk result (λ words. length words.items ≡ total (lay_of lay.now)) }
     ensures words { IfOk result (λ words. (limits : Limits) → words.items ≡ first_words_of (setup_of program.now lay.now.t limits)) }
 {
-    let mut words = Vec::with_capacity(alloc, lay.len() as usize)?;
+    let frames = first_frames(alloc, program, lay)?;
+    let mut words = with_frames(alloc, lay, &frames)?;
     words.resize(lay.place(Item::Clock { n: 0 }) as usize, 0)?;
-    words.resize(lay.place(Item::Turn { g: 0 }) as usize, 1)?;
+    words.resize(lay.place(Item::Turn { n: 0, g: 0 }) as usize, 1)?;
     words.resize(lay.len() as usize, 0)?;
-    for word in program.init() {
-        words[master(lay, word.0)] = word.1;
-    }
     Ok(words)
 }
 

@@ -117,20 +117,24 @@ fn locks_in_turn(rt: HostRuntime) -> Result<(), Fail> {
     Ok(())
 }
 
-// Two nodes and two pages of one word: each page has its value at its home alone, and the clocks, behind eight blocks
-// of four words, are 1.
+// Two nodes and two pages of one word: each node has the program's values, and the clocks, behind eight blocks of four
+// words, are 1. The home of page 0 is then node 1, which has another value there; page 1 has no home.
 #[test]
-fn starts_at_the_homes(rt: HostRuntime) -> Result<(), Fail> {
+fn starts_at_every_node(rt: HostRuntime) -> Result<(), Fail> {
     let program = program(rt.alloc(), 2, &[(0, 5), (1, 6)], &[Instr::Halt])?;
-    let state = State::start(rt.alloc(), &program, Topology::new(2, 1)?, LIMITS)?;
-    let mut words = [0; 51];
+    let mut state = State::start(rt.alloc(), &program, Topology::new(2, 1)?, LIMITS)?;
+    let mut words = [0; 55];
     words[1] = 5;
+    words[2] = 6;
+    words[3] = 5;
     words[4] = 6;
     words[33] = 1;
     words[34] = 1;
     assert_eq!(rt; state.words.as_slice(), words.as_slice());
+    state.words[3] = 9;
+    state.words[53] = 2;
     let ran = state.into_ran(rt.alloc())?;
-    assert_eq!(rt; ran.pages.as_slice(), [5, 6].as_slice());
+    assert_eq!(rt; ran.pages.as_slice(), [9, 6].as_slice());
     assert_eq!(rt; ran.ends.as_slice(), [None, None].as_slice());
     assert!(rt; !ran.is_halted());
     Ok(())

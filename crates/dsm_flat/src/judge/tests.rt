@@ -207,3 +207,24 @@ fn many_accesses_are_ordered(rt: HostRuntime) -> Result<(), Fail> {
     assert_eq!(rt; judge(alloc, &traces, 0)?, Verdict::Ordered);
     Ok(())
 }
+
+// Thirty-two processors add to word 0, each under lock 0 behind the one before it; then the last does so without the lock.
+#[test]
+fn thirty_two_traces(rt: HostRuntime) -> Result<(), Fail> {
+    let alloc = rt.alloc();
+    let o = Obj::Lock(0);
+    let mut traces = Vec::new(alloc);
+    for p in 0..31 {
+        let list = [pass(o, p), load(0, p), store(0, p + 1), signal(o, p)];
+        traces.push(trace(alloc, &list)?)?;
+    }
+    let locked = [pass(o, 31), load(0, 31), store(0, 32)];
+    traces.push(trace(alloc, &locked)?)?;
+    assert!(rt; traces.len() == 32);
+    assert_eq!(rt; judge(alloc, traces.as_slice(), 0)?, Verdict::Ordered);
+    let _ = traces.pop();
+    traces.push(trace(alloc, &[load(0, 31), store(0, 32)])?)?;
+    assert!(rt; traces.len() == 32);
+    assert_eq!(rt; judge(alloc, traces.as_slice(), 0)?, raced((0, 1), (31, 1)));
+    Ok(())
+}

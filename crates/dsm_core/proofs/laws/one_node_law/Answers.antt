@@ -1,6 +1,5 @@
-use Rattle.dsm_core.proofs.Mappings.{leaves_other_mappings}
-use Rattle.dsm_core.proofs.Promising.{every_run}
+use Rattle.dsm_core.proofs.Promising.{one_node_keeps_words, alone_is_ordered}
 use Rattle.dsm_core.proofs.laws.one_node_law.Goals as goal
 
 pub returns : goal.returns
-returns c = record { runs = every_run; mappings = leaves_other_mappings }
+returns c = record { words = one_node_keeps_words; alone = alone_is_ordered }

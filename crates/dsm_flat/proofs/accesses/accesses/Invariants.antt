@@ -1,4 +1,4 @@
-use Rattle.dsm_flat.specs.Judge.{lists_of}
+use Rattle.dsm_entry.specs.Told.{lists_of}
 use Rattle.dsm_flat.specs.Accesses.{IsListed, first_place}
 use Rattle.dsm_flat.proofs.accesses.accesses.Given as goal
 

@@ -1,5 +1,5 @@
 use Rattle.std.proofs.Common.{◌+◌, arith, sym, ◌∙◌, subst}
-use Rattle.dsm_flat.specs.Judge.{lists_of}
+use Rattle.dsm_entry.specs.Told.{lists_of}
 use Rattle.dsm_flat.specs.Accesses.{IsListed}
 use Rattle.dsm_flat.proofs.Searching.{trace_at, holds_in}
 use Rattle.dsm_flat.proofs.Listing.{listed_push, listed_skip, listed_next, no_gap}

@@ -1,4 +1,4 @@
-use Rattle.dsm_flat.specs.Judge.{lists_of}
+use Rattle.dsm_entry.specs.Told.{lists_of}
 use Rattle.dsm_flat.specs.Accesses.{IsListed}
 use Rattle.dsm_flat.proofs.accesses.add_trace.Given as goal
 

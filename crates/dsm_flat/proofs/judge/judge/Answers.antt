@@ -5,7 +5,8 @@ use Rattle.std.proofs.lemmas.Option.{slice_get_read}
 use Rattle.dsm_entry.specs.Told.{Told}
 use Rattle.dsm_flat.specs.declared.accesses.Access.{Access}
 use Rattle.dsm_flat.specs.Flat.{Ordered}
-use Rattle.dsm_flat.specs.Judge.{list_of, lists_of, IsFirstRace}
+use Rattle.dsm_entry.specs.Told.{list_of, lists_of}
+use Rattle.dsm_flat.specs.Judge.{IsFirstRace}
 use Rattle.dsm_flat.specs.Accesses.{first_place, IsListed, AreAt, AreRows, IsRacyAt, IsOrderedUpTo}
 use Rattle.dsm_flat.proofs.Listing.{at_of, wide, all_ordered, first_race, ordered_says_ordered, ordered_says_raced, raced_says_ordered, raced_says_raced}
 use Rattle.dsm_flat.proofs.judge.judge.Goals as goal

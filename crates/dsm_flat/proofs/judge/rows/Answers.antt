@@ -3,7 +3,7 @@ use Rattle.std.specs.Prelude.{Some, slice_get}
 use Rattle.std.proofs.lemmas.Option.{same_Some}
 use Rattle.dsm_flat.specs.declared.accesses.Access.{Access}
 use Rattle.dsm_flat.specs.Order.{Traces}
-use Rattle.dsm_flat.specs.Judge.{lists_of}
+use Rattle.dsm_entry.specs.Told.{lists_of}
 use Rattle.dsm_flat.specs.Rows.{IsReach}
 use Rattle.dsm_flat.proofs.Lists.{Filled, filled_push}
 use Rattle.dsm_flat.proofs.Listing.{item, item_at}

@@ -1,7 +1,7 @@
 use Rattle.std.proofs.Common.{◌≡◌}
 use Rattle.std.specs.Prelude.{Some, slice_get}
 use Rattle.dsm_flat.specs.declared.accesses.Access.{Access}
-use Rattle.dsm_flat.specs.Judge.{lists_of}
+use Rattle.dsm_entry.specs.Told.{lists_of}
 use Rattle.dsm_flat.specs.Rows.{IsReach}
 use Rattle.dsm_flat.proofs.Lists.{Filled}
 use Rattle.dsm_flat.proofs.judge.rows.Given as goal

@@ -1,5 +1,5 @@
 use Rattle.std.specs.Prelude.{slice_get}
-use Rattle.dsm_flat.specs.Judge.{lists_of}
+use Rattle.dsm_entry.specs.Told.{lists_of}
 use Rattle.dsm_flat.specs.Links.{LeadsTo}
 use Rattle.dsm_flat.proofs.Lists.{Filled}
 use Rattle.dsm_flat.proofs.links.trace_links.Given as goal

@@ -1,5 +1,5 @@
 use Rattle.std.proofs.Common.{◌-◌, ◌<◌, arith, length, sym, subst, slice_set}
-use Rattle.dsm_flat.specs.Judge.{lists_of}
+use Rattle.dsm_entry.specs.Told.{lists_of}
 use Rattle.dsm_flat.specs.Order.{entry_at}
 use Rattle.dsm_flat.specs.Links.{LeadsTo}
 use Rattle.dsm_flat.proofs.Searching.{Searching, searching_start, searching_step, reach_is, links_at, link_at, leads_len}

@@ -1,5 +1,5 @@
 use Rattle.std.proofs.Common.{sum}
-use Rattle.dsm_flat.specs.Judge.{lists_of}
+use Rattle.dsm_entry.specs.Told.{lists_of}
 use Rattle.dsm_flat.proofs.Searching.{Searching}
 use Rattle.dsm_flat.proofs.reach.search.Given as goal
 

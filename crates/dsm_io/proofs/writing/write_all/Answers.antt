@@ -1,4 +1,4 @@
-use Rattle.std.proofs.Common.{◌-◌, ◌≡◌, sym, arith, length, length-drop, take, drop, take-append-drop}
+use Rattle.std.proofs.Common.{◌-◌, ◌≡◌, ◌∙◌, sym, arith, length, length-drop, take, drop, take-append-drop}
 use Rattle.std.proofs.Math.Seq.{take-add}
 use Rattle.std.proofs.lemmas.Grind.{common_steps}
 use Rattle.std.proofs.lemmas.Result.{err_from_is_err_and}
@@ -17,5 +17,5 @@ loop-at-preserved g c =
     record {
       written = rw take-add (Appends-trans _ _ _ _ _ c.loop-at.invariant.written (rw all at c.in_ok-at.ensures.bytes));
       within = let bound = rw (all, length-drop) at fits in omega (arith, bound);
-      counts = omega (arith, c.loop-at.invariant.counts, c.in_ok-at.ensures.counts);
+      well = c.in_ok-at.ensures.well ∙ c.loop-at.invariant.well;
     }

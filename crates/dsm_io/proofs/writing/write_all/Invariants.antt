@@ -1,13 +1,13 @@
-use Rattle.std.proofs.Common.{◌-◌, ◌≤◌, length, take}
+use Rattle.std.proofs.Common.{◌≡◌, ◌-◌, ◌≤◌, length, take}
 use Rattle.std.specs.Io.KnownBytes.{Appends}
 use Rattle.dsm_io.proofs.writing.write_all.Given as goal
 
--- What stands before the index is written.
+-- What stands before the index is written, and no write failed.
 abbrev pub invariant-loop-at : goal.invariant-loop-at
 invariant-loop-at g l = record {
   written : Appends (g.K.Sink.written l.fn.sink) (g.K.Sink.written l.sink) (take l.at l.bytes);
   within : l.at ≤ length l.bytes;
-  counts : g.K.Sink.faults l.fn.sink ≤ g.K.Sink.faults l.sink;
+  well : g.K.Sink.faults l.sink ≡ g.K.Sink.faults l.fn.sink;
 }
 
 abbrev pub decreases-loop-at : goal.decreases-loop-at

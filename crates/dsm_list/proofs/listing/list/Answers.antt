@@ -4,12 +4,11 @@ use Rattle.dsm_isa.specs.declared.instr.Instr.{Instr}
 use Rattle.dsm_isa.specs.Jumps.{JumpsInside}
 use Rattle.dsm_isa.specs.Limits.{IsWithinLimits}
 use Rattle.dsm_isa.specs.ProgramText.{Sizes}
-use Rattle.dsm_isa.specs.Rules.{IsInitial, ObjectsInside}
+use Rattle.dsm_isa.specs.Rules.{IsInitial, ObjectsInside, IsProgram}
 use Rattle.dsm_grammar.specs.Faults.{first_fault_of}
 use Rattle.dsm_grammar.specs.Grammar.{program_of}
 use Rattle.dsm_list.specs.Canonical.{canonical}
-use Rattle.dsm_list.specs.Programs.{IsProgram}
-use Rattle.dsm_list.specs.Spelling.{IsInRange}
+use Rattle.dsm_isa.specs.Operands.{IsInRange}
 use Rattle.dsm_list.proofs.Whole.{accepted, same}
 use Rattle.dsm_list.proofs.listing.list.Goals as goal
 

@@ -4,7 +4,7 @@ use Rattle.std.proofs.lemmas.Grind.{common_steps}
 use Rattle.std.proofs.lemmas.List.{take_all}
 use Rattle.std.proofs.lemmas.List.Elements.{All-more}
 use Rattle.std.proofs.lemmas.Result.{on_ok_weaker}
-use Rattle.dsm_list.specs.Spelling.{IsInRange}
+use Rattle.dsm_isa.specs.Operands.{IsInRange}
 use Rattle.dsm_list.proofs.listing.write_code.Goals as goal
 
 pub loop-place-preserved : goal.loop-place-preserved

@@ -1,7 +1,7 @@
 use Rattle.std.proofs.Common.{◌≡◌, ◌++◌, All, take, drop, flat_map}
 use Rattle.dsm_list.specs.Canonical.{code_lines}
 use Rattle.dsm_list.specs.Lines.{line}
-use Rattle.dsm_list.specs.Spelling.{IsInRange}
+use Rattle.dsm_isa.specs.Operands.{IsInRange}
 use Rattle.dsm_list.proofs.listing.write_code.Given as goal
 
 -- the text, with the lines that are left, is the whole one; the instructions so far are in range

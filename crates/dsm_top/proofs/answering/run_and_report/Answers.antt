@@ -12,6 +12,6 @@ report-requires c =
 pub returns : goal.returns
 returns c =
     let left = c.in_ok-ran.field-0 in (
-      runs_are c.args.t c.args.limits c.args.kind c.args.steps c.args.program.now left.ran left.cut c.one_node_law.ensures.runs c.requires.one_node c.requires.setup c.in_ok-ran.ensures,
+      runs_are c.args.t c.args.limits c.args.kind c.args.steps c.args.program.now left.ran left.cut c.run_law.ensures.runs c.one_node_law.ensures.words c.one_node_law.ensures.alone c.requires.one_node c.requires.setup c.in_ok-ran.ensures,
       c.in_ok-text.ensures ∙ ap (λ s. report c.args.t s left.ran) c.shape.ensures,
     )

@@ -23,7 +23,7 @@ answer_to-requires g c =
 pub returns-clause-run : goal.returns-clause-run
 returns-clause-run g c =
     rw c.finish.ensures.ran
-    (has_run (texts c.args.words.now) _ _ c.in-Ok.plan c.in-Ok-read_program.program c.in-Ok-answer_to.answer.ran c.in-Ok-answer_to.answer.text.items c.in-Ok.ensures.plan c.in-Ok-read_program.ensures.program c.in-Ok-answer_to.ensures)
+    (has_run (texts c.args.words.now) _ c.in-Ok.plan c.in-Ok-read_program.program c.in-Ok-answer_to.answer.ran c.in-Ok-answer_to.answer.text.items c.in-Ok.ensures.plan c.in-Ok-read_program.ensures.program c.in-Ok-answer_to.ensures)
 
 pub returns-clause-ran : goal.returns-clause-ran
 returns-clause-ran g c =

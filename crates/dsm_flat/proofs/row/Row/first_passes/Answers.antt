@@ -5,7 +5,7 @@ use Rattle.std.proofs.lemmas.Option.{same_Some}
 use Rattle.dsm_entry.specs.declared.entry.Obj.{Obj}
 use Rattle.dsm_entry.specs.declared.entry.Entry.{Entry}
 use Rattle.dsm_entry.specs.Told.{Told}
-use Rattle.dsm_flat.specs.Judge.{list_of, lists_of}
+use Rattle.dsm_entry.specs.Told.{list_of, lists_of}
 use Rattle.dsm_flat.specs.Links.{IsFirstPass}
 use Rattle.dsm_flat.proofs.Lists.{Filled, filled_push}
 use Rattle.dsm_flat.proofs.Searching.{trace_at}

@@ -1,7 +1,7 @@
 use Rattle.std.proofs.Common.{◌≡◌, List}
 use Rattle.std.specs.Prelude.{Some, slice_get}
 use Rattle.dsm_entry.specs.declared.entry.Entry.{Entry}
-use Rattle.dsm_flat.specs.Judge.{lists_of}
+use Rattle.dsm_entry.specs.Told.{lists_of}
 use Rattle.dsm_flat.specs.Links.{IsFirstPass}
 use Rattle.dsm_flat.proofs.Lists.{Filled}
 use Rattle.dsm_flat.proofs.row.Row.first_passes.Given as goal

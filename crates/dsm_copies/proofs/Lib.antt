@@ -1,0 +1,17 @@
+pub mod Needs
+pub mod Facts
+pub mod Ops
+pub mod Stores
+pub mod Holds
+pub mod Events
+pub mod Every
+pub mod Origins
+pub mod Counting
+pub mod Owing
+pub mod Premised
+pub mod Deeds
+pub mod Knowing
+pub mod Joining
+pub mod Tests
+pub mod SendTests
+pub mod Worked

@@ -1,0 +1,13 @@
+pub mod Facts
+pub mod Sounds
+pub mod Mapped
+pub mod Owed
+pub mod Released
+pub mod Fitting
+pub mod Keeps
+pub mod Worked
+pub mod Tracks
+pub mod Meeting
+pub mod Home
+pub mod Others
+pub mod Joined

@@ -1,0 +1,5 @@
+pub mod Page
+pub mod Premises
+pub mod Laws
+pub mod Examples
+pub mod Joining

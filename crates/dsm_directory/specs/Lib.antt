@@ -1,0 +1,4 @@
+pub mod Directory
+pub mod Homes
+pub mod Laws
+pub mod Rests

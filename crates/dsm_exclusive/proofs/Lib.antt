@@ -1,0 +1,3 @@
+mod Broken
+pub mod Copying
+mod Entered

@@ -1,0 +1,5 @@
+pub mod Breaking
+pub mod Copying
+pub mod Entering
+pub mod Laws
+pub mod Telling

@@ -1,0 +1,7 @@
+// Accesses to the frames of a node, and the mappings of processors.
+#![tactic(auto)]
+
+pub mod access;
+pub mod mapping;
+#[cfg(test)]
+mod tests;

@@ -1,0 +1,5 @@
+pub mod Finding
+pub mod Laws
+pub mod Notices
+pub mod Posting
+pub mod Rests

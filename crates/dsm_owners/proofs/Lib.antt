@@ -1,0 +1,7 @@
+pub mod Facts
+pub mod Acts
+pub mod AtStages
+pub mod Keeps
+pub mod Every
+pub mod Tests
+pub mod Worked

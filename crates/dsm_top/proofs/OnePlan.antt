@@ -1,0 +1,120 @@
+-- The words of a command line ask for one plan at most.
+use Rattle.std.proofs.Common.{◌≡◌, ◌≢◌, ℕ, suc, ◌<◌, ◌≤◌, ◌*◌, ◌^◌, List, [], ◌∷◌, ◌++◌, length, get_or, append_assoc, codes, decimal, map, All, refl, sym, ap, ◌∙◌, arith}
+use Rattle.std.proofs.lemmas.Fmt.{decimal_injective}
+use Rattle.std.proofs.lemmas.List.Elements.{All-head, All-tail}
+use mathlib.Core.HLevel.{is_prop→PathP}
+use native.Mathlib.Bridge.{le_prop}
+use Rattle.dsm_words.specs.declared.topology.Topology.{Topology}
+use Rattle.dsm_machine.specs.declared.limits.Limits.{Limits}
+use Rattle.dsm_sched.specs.declared.kind.Kind.{Kind}
+use Rattle.dsm_sched.specs.declared.kind.Kind.TheVariants.{Round}
+use Rattle.dsm_top.specs.declared.plans.Plan.TheVariants.{Check, List as Listing, Sim}
+use Rattle.dsm_top.specs.declared.plans.Setting.{Setting}
+use Rattle.dsm_top.specs.declared.plans.Setting.TheVariants.{Kind as OfKind, Turns, Looks, Steps}
+use Rattle.dsm_top.specs.Plans.{topology_word, word_of, IsInRange, AskForSim, AskForOnePlan}
+use Rattle.dsm_top.proofs.Spelling.{no_x, same_behind}
+use Rattle.dsm_top.proofs.Words.{simulation_of}
+
+-- a cluster is given by its two numbers
+same_topology : (s t : Topology) → s.nodes ≡ t.nodes → s.procs ≡ t.procs → s ≡ t
+same_topology s t n p = λ i. record {
+  nodes = n i;
+  procs = p i;
+  some_nodes = is_prop→PathP (λ j. 0 < n j) (λ j. le_prop) s.some_nodes t.some_nodes i;
+  most_nodes = is_prop→PathP (λ j. n j ≤ 8) (λ j. le_prop) s.most_nodes t.most_nodes i;
+  some_procs = is_prop→PathP (λ j. 0 < p j) (λ j. le_prop) s.some_procs t.some_procs i;
+  most_procs = is_prop→PathP (λ j. p j ≤ 8) (λ j. le_prop) s.most_procs t.most_procs i;
+  most_all = is_prop→PathP (λ j. n j * p j ≤ 32) (λ j. le_prop) s.most_all t.most_all i;
+}
+
+-- a list is cut in one way at the first x
+abbrev IsFree : List ℕ → Type 0
+IsFree xs = (i : ℕ) → i < length xs → get_or xs i 0 ≢ 120
+
+cut_once : (xs us ys vs : List ℕ) → IsFree xs → IsFree us → xs ++ (120 ∷ ys) ≡ us ++ (120 ∷ vs) → (xs ≡ us) × (ys ≡ vs)
+cut_once [] [] ys vs free clear same = (refl, cc)
+cut_once [] (u ∷ us) ys vs free clear same = absurd (clear 0 (omega arith) (cc))
+cut_once (x ∷ xs) [] ys vs free clear same = absurd (free 0 (omega arith) (cc))
+cut_once (x ∷ xs) (u ∷ us) ys vs free clear same =
+    let first : x ≡ u = cc in
+    let others : xs ++ (120 ∷ ys) ≡ us ++ (120 ∷ vs) = cc in
+    let (front, behind) = cut_once xs us ys vs (λ i inside. free (suc i) (omega arith)) (λ i inside. clear (suc i) (omega arith)) others in
+    (cc (first, front), behind)
+
+topology-word_injective : (s t : Topology) → topology_word s ≡ topology_word t → s ≡ t
+topology-word_injective s t same =
+    let whole = sym (append_assoc (decimal s.nodes) (codes "x") (decimal s.procs)) ∙ same ∙ append_assoc (decimal t.nodes) (codes "x") (decimal t.procs) in
+    let halves = cut_once (decimal s.nodes) (decimal t.nodes) (decimal s.procs) (decimal t.procs) (no_x s.nodes (omega (arith, s.most_nodes))) (no_x t.nodes (omega (arith, t.most_nodes))) whole in
+    same_topology s t
+    (decimal_injective s.nodes t.nodes (omega (arith, s.most_nodes)) (omega (arith, t.most_nodes)) halves.0)
+    (decimal_injective s.procs t.procs (omega (arith, s.most_procs)) (omega (arith, t.most_procs)) halves.1)
+
+same_number : (name : List ℕ) (m n : ℕ) → m < 2 ^ 64 → n < 2 ^ 64 → name ++ decimal m ≡ name ++ decimal n → m ≡ n
+same_number name m n small less same = decimal_injective m n small less (same_behind (name ++ decimal m) name (decimal m) (decimal n) refl same)
+
+-- the first byte of a setting's word tells what it sets
+abbrev first_byte : Setting → ℕ
+first_byte (OfKind kind) = 107
+first_byte (Turns n) = 116
+first_byte (Looks n) = 108
+first_byte (Steps n) = 115
+
+first-word : (s : Setting) → get_or (word_of s) 0 0 ≡ first_byte s
+first-word (OfKind kind) = refl
+first-word (Turns n) = refl
+first-word (Looks n) = refl
+first-word (Steps n) = refl
+
+same_first : (a b : Setting) → word_of a ≡ word_of b → first_byte a ≡ first_byte b
+same_first a b same = sym (first-word a) ∙ ap (λ w. get_or w 0 0) same ∙ first-word b
+
+-- and a setting is given by its word
+word-injective : (a b : Setting) → IsInRange a → IsInRange b → word_of a ≡ word_of b → a ≡ b
+word-injective (OfKind Round) (OfKind Round) within inside same = refl
+word-injective (Turns m) (Turns n) within inside same = ap Turns (same_number (codes "turns" ++ codes "=") m n (omega (arith, within)) (omega (arith, inside)) same)
+word-injective (Looks m) (Looks n) within inside same = ap Looks (same_number (codes "looks" ++ codes "=") m n (omega (arith, within)) (omega (arith, inside)) same)
+word-injective (Steps m) (Steps n) within inside same = ap Steps (same_number (codes "steps" ++ codes "=") m n (omega (arith, within)) (omega (arith, inside)) same)
+word-injective (OfKind k) (Turns n) within inside same = absurd (omega (arith, same_first (OfKind k) (Turns n) same))
+word-injective (OfKind k) (Looks n) within inside same = absurd (omega (arith, same_first (OfKind k) (Looks n) same))
+word-injective (OfKind k) (Steps n) within inside same = absurd (omega (arith, same_first (OfKind k) (Steps n) same))
+word-injective (Turns m) (OfKind k) within inside same = absurd (omega (arith, same_first (Turns m) (OfKind k) same))
+word-injective (Turns m) (Looks n) within inside same = absurd (omega (arith, same_first (Turns m) (Looks n) same))
+word-injective (Turns m) (Steps n) within inside same = absurd (omega (arith, same_first (Turns m) (Steps n) same))
+word-injective (Looks m) (OfKind k) within inside same = absurd (omega (arith, same_first (Looks m) (OfKind k) same))
+word-injective (Looks m) (Turns n) within inside same = absurd (omega (arith, same_first (Looks m) (Turns n) same))
+word-injective (Looks m) (Steps n) within inside same = absurd (omega (arith, same_first (Looks m) (Steps n) same))
+word-injective (Steps m) (OfKind k) within inside same = absurd (omega (arith, same_first (Steps m) (OfKind k) same))
+word-injective (Steps m) (Turns n) within inside same = absurd (omega (arith, same_first (Steps m) (Turns n) same))
+word-injective (Steps m) (Looks n) within inside same = absurd (omega (arith, same_first (Steps m) (Looks n) same))
+
+words-injective : (xs ys : List Setting) → All IsInRange xs → All IsInRange ys → map word_of xs ≡ map word_of ys → xs ≡ ys
+words-injective [] [] within inside same = refl
+words-injective [] (y ∷ ys) within inside same = absurd (cc)
+words-injective (x ∷ xs) [] within inside same = absurd (cc)
+words-injective (x ∷ xs) (y ∷ ys) within inside same =
+    let first : word_of x ≡ word_of y = cc in
+    let others : map word_of xs ≡ map word_of ys = cc in
+    let head = word-injective x y (All-head IsInRange x xs within) (All-head IsInRange y ys inside) first in
+    let tail = words-injective xs ys (All-tail IsInRange x xs within) (All-tail IsInRange y ys inside) others in
+    cc (head, tail)
+
+-- a plan to simulate is that of its topology and its settings
+simulation : (words : List (List ℕ)) (t : Topology) (limits : Limits) (kind : Kind) (steps : ℕ) (h : AskForSim words t limits kind steps) → Sim t limits kind steps ≡ simulation_of t h.settings
+simulation words t limits kind steps h = let a = h.given_limits in let b = h.given_kind in let c = h.given_steps in cc
+
+pub one_plan : AskForOnePlan
+one_plan words Check Check one other = refl
+one_plan words Check Listing one other = absurd (cc (one, other))
+one_plan words Check (Sim t limits kind steps) one other = absurd (cc (one, other.spelt))
+one_plan words Listing Check one other = absurd (cc (one, other))
+one_plan words Listing Listing one other = refl
+one_plan words Listing (Sim t limits kind steps) one other = absurd (cc (one, other.spelt))
+one_plan words (Sim t limits kind steps) Check one other = absurd (cc (other, one.spelt))
+one_plan words (Sim t limits kind steps) Listing one other = absurd (cc (other, one.spelt))
+one_plan words (Sim s limits kind steps) (Sim t limits' kind' steps') one other =
+    let both : codes "sim" ∷ topology_word s ∷ one.others ≡ codes "sim" ∷ topology_word t ∷ other.others = sym one.spelt ∙ other.spelt in
+    let second : topology_word s ≡ topology_word t = cc in
+    let rest : one.others ≡ other.others = cc in
+    let cluster = topology-word_injective s t second in
+    let settings = words-injective one.settings other.settings one.set.in_range other.set.in_range (sym one.set.spelt ∙ rest ∙ other.set.spelt) in
+    simulation words s limits kind steps one ∙ ap (λ u. simulation_of u one.settings) cluster ∙ ap (simulation_of t) settings ∙ sym (simulation words t limits' kind' steps' other)
