@@ -1,6 +1,6 @@
 -- The labels of a text, line by line.
-use Rattle.std.proofs.Common.{◌≡◌, ℕ, suc, ◌+◌, ◌≤◌, Bool, true, false, cond, List, [], ◌∷◌, ◌++◌, length, length-append, Option, None, Some, append-nil, append_assoc, refl, sym, ap, ◌∙◌, arith}
-use Rattle.std.specs.List.{filter}
+use Rattle.std.proofs.Common.{◌≡◌, ℕ, suc, ◌+◌, ◌≤◌, Bool, true, false, cond, List, [], ◌∷◌, ◌++◌, length, drop, length-append, Option, None, Some, append-nil, append_assoc, refl, sym, ap, ◌∙◌, arith}
+use Rattle.std.specs.List.{filter, slice_get}
 use Rattle.std.specs.Option.{is_some, option_map, option_map_or, option_or}
 use Rattle.std.specs.Str.{bytes_eq}
 use Rattle.std.specs.Prelude.{if◌then◌else◌}
@@ -133,6 +133,11 @@ HasLabelled-line text rest behind here line place old new name n read cut label 
 
 pub HasLabelled-all : (text : List ℕ) (line place : ℕ) (held : List ℕ → Option Label) → HasLabelled text [] line place held → Labelled (lines_of text) held
 HasLabelled-all text line place held read = rw (read.cut ∙ append-nil read.before) read.labelled
+
+-- a list with a first element is that and the others
+pub first-is : {X : Type 0} (xs : List X) (x : X) → Some x ≡ slice_get xs 0 → xs ≡ x ∷ drop 1 xs
+first-is [] x e = absurd (cc e)
+first-is (y ∷ xs) x e = let same : x ≡ y = cc e in rw same refl
 
 -- a line has an instruction exactly where its first word is the name of one
 pub has_instruction-named : (line name : List ℕ) (words : List (List ℕ)) (form : Option Form) → statement_of line ≡ name ∷ words → named name (instructions default_settings.sizes) ≡ option_map (statement_in default_settings.sizes) form → is_some form ≡ has_instruction line

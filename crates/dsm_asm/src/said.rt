@@ -1,10 +1,11 @@
-ghost use Rattle.std.specs.Prelude.{◌≡◌, ◌<◌, ◌≤◌, ◌^◌, ◌&&◌, ◌||◌, nat_le, [], length, MatchOption, slice_index_or, drop};
+ghost use Rattle.std.specs.Prelude.{◌≡◌, ◌<◌, ◌≤◌, ◌^◌, ◌&&◌, ◌||◌, nat_le, [], length, MatchOption, slice_index_or, slice_get, drop};
 ghost use Rattle.std.specs.Option.{option_map};
 ghost use Rattle.dsm_lex.specs.Lexical.{is_blank as blank};
 ghost use Rattle.dsm_grammar.specs.Lines.{is_plain as plain, is_short as short, label_in, first_label, label_of, statement_of};
 ghost use Rattle.dsm_asm.specs.Words.{Holds};
 ghost use Rattle.dsm_asm.specs.Lines.{line_words, Splits, Says};
 
+use crate::cutting::first_word;
 use crate::operands::Operands;
 use dsm_lex::spans::Span;
 use dsm_lex::spelling::name;
@@ -30,6 +31,53 @@ pub struct Said<'a> {
     /// The label that the line defines.
     pub label: Option<&'a [u8]>,
     pub statement: Option<Statement<'a>>,
+}
+
+/// The words that a line begins with.
+#[derive(Clone, Copy)]
+pub struct FirstWords<'a> {
+    /// The label that the line defines.
+    pub label: Option<&'a [u8]>,
+    /// The name of the directive or the instruction.
+    pub name: Option<&'a [u8]>,
+}
+
+/// The words that this line begins with. What stands behind them is looked at only where there is a label.
+pub fn first_words(line: &[u8]) -> FirstWords<'_>
+    ensures label { option_map (λ label. label.now) result.label ≡ label_of line.now }
+    ensures name { option_map (λ name. name.now) result.name ≡ slice_get (statement_of line.now) 0 }
+{
+    let Some((word, behind)) = first_word(line) else {
+        return FirstWords {
+            label: None,
+            name: None,
+        };
+    };
+    match label_name(word) {
+        Some(label) => FirstWords {
+            label: if may_label(line) { Some(label) } else { None },
+            name: word_at_front(behind),
+        },
+        None => FirstWords {
+            label: None,
+            name: Some(word),
+        },
+    }
+}
+
+/// Whether a label of the line counts.
+fn may_label(line: &[u8]) -> bool
+    ensures { result ≡ (plain line.now && short line.now) }
+{
+    line.len() <= MOST_LINE && is_plain(line)
+}
+
+/// The first word, where there is one.
+fn word_at_front(line: &[u8]) -> Option<&[u8]>
+    ensures { option_map (λ word. word.now) result ≡ slice_get (line_words line.now) 0 }
+{
+    let (word, _) = first_word(line)?;
+    Some(word)
 }
 
 /// What this line says.

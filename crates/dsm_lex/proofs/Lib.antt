@@ -2,4 +2,3 @@ pub mod Cutting
 pub mod Numbers
 pub mod Pieces
 pub mod Places
-pub mod Texts

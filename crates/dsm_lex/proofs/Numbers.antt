@@ -1,10 +1,12 @@
 -- A word spells a number exactly where it is what that number prints as.
-use Rattle.std.proofs.Common.{◌≡◌, ℕ, zero, suc, ◌<◌, ◌^◌, true, List, [], ◌∷◌, Option, None, Some, length, get_or, decimal, refl, sym, ap, ◌∙◌, subst, arith}
+use Rattle.std.proofs.Common.{inl, inr, ◌⊎◌, ◌≡◌, ℕ, zero, suc, ◌+◌, ◌*◌, ◌<◌, ◌≤◌, ◌^◌, ◌&&◌, nat_lt, if◌then◌else◌, true, false, take, List, [], ◌∷◌, Option, None, Some, length, get_or, decimal, refl, sym, ap, ◌∙◌, subst, arith}
 use Rattle.std.specs.Char.{is_ascii_digit, digit_value}
 use Rattle.std.specs.List.{list_all}
 use Rattle.std.specs.Str.Parse.{AllDigits, digits_value}
+use Rattle.std.proofs.lemmas.Bool.{cases_Bool}
+use Rattle.std.proofs.lemmas.Int.Digits.{digits_more, digits_value_more}
 use Rattle.std.proofs.lemmas.Fmt.{decimal-digits_value, decimal_is_IsNumeral, first_decimal, decimal_digit}
-use Rattle.std.proofs.lemmas.Str.Parse.{numerals_by_value, tells_digits, digit_from_value}
+use Rattle.std.proofs.lemmas.Str.Parse.{digits_value-take-le, numerals_by_value, tells_digits, digit_from_value}
 use Rattle.std.proofs.lemmas.Str.{digit_value_digit}
 use Rattle.dsm_lex.specs.Lexical.{is_numeral, number_of}
 
@@ -61,9 +63,56 @@ number_of-back word n h =
     let value : digits_value 10 word ≡ n = rw h.1 (is.1) in
     grind (arith)
 
-pub number_of-none : (word : List ℕ) → ((n : ℕ) → n < 2 ^ 64 → word ≡ decimal n → ⊥) → number_of word ≡ None
-number_of-none word none = go (number_of word) refl
-  where
-    go : (o : Option ℕ) → number_of word ≡ o → o ≡ None
-    go None is = refl
-    go (Some n) is = let spelt = number_of-forth word n is in absurd (none n spelt.0 spelt.1)
+-- what spells no number
+pub number_of-no_numeral : (word : List ℕ) → is_numeral word ≡ false → number_of word ≡ None
+number_of-no_numeral word fails = rw fails
+
+pub number_of-large : (word : List ℕ) → 2 ^ 64 ≤ digits_value 10 word → number_of word ≡ None
+number_of-large word large = grind (arith)
+
+no_test : (ds : List ℕ) (i : ℕ) → i < length ds → is_ascii_digit (get_or ds i 0) ≡ false → list_all is_ascii_digit ds ≡ false
+no_test [] i inside fails = absurd (omega arith)
+no_test (b ∷ ds) zero inside fails = rw fails
+no_test (b ∷ ds) (suc i) inside fails = let others = no_test ds i (omega arith) fails in grind (arith)
+
+number_of-no_digit : (word : List ℕ) (i : ℕ) → i < length word → is_ascii_digit (get_or word i 0) ≡ false → number_of word ≡ None
+number_of-no_digit [] i inside fails = absurd (omega arith)
+number_of-no_digit (b ∷ ds) i inside fails = number_of-no_numeral (b ∷ ds) (rw (no_test (b ∷ ds) i inside fails))
+
+pub number_of-zero_first : (word : List ℕ) → 1 < length word → get_or word 0 0 ≡ 48 → number_of word ≡ None
+number_of-zero_first [] long zero_first = absurd (omega arith)
+number_of-zero_first (b ∷ ds) long zero_first = number_of-no_numeral (b ∷ ds) (grind (arith))
+
+pub number_of-value : (word : List ℕ) (n : ℕ) → 0 < length word → AllDigits 10 word → (get_or word 0 0 ≡ 48 → length word ≡ 1) → n ≡ digits_value 10 word → n < 2 ^ 64 → number_of word ≡ Some n
+number_of-value word n some all zero_first is small =
+    let numeral = numeral-back word some all zero_first in
+    let value : digits_value 10 word ≡ n = sym is in
+    grind (arith)
+
+-- one more digit, where the value of the digits before it is n
+abbrev pub one_more : ℕ → ℕ → Option ℕ
+one_more n b = if is_ascii_digit b && nat_lt (n * 10 + digit_value b) (2 ^ 64) then Some (n * 10 + digit_value b) else None
+
+one_more-some : (n m b : ℕ) → Some m ≡ one_more n b → (is_ascii_digit b ≡ true) × (m ≡ n * 10 + digit_value b) × (m < 2 ^ 64)
+one_more-some n m b e = elim (cases_Bool (is_ascii_digit b)) [
+  | inl w ↦ (w, grind (arith), grind (arith))
+  | inr w ↦ absurd (grind (arith))
+]
+
+one_more-none : (n b : ℕ) → None ≡ one_more n b → (is_ascii_digit b ≡ false) ⊎ (2 ^ 64 ≤ n * 10 + digit_value b)
+one_more-none n b e = elim (cases_Bool (is_ascii_digit b)) [
+  | inl w ↦ inr (grind (arith))
+  | inr w ↦ inl w
+]
+
+pub digits-more : (word : List ℕ) (i n m : ℕ) → i < length word → AllDigits 10 (take i word) → n ≡ digits_value 10 (take i word) → Some m ≡ one_more n (get_or word i 0) → AllDigits 10 (take (i + 1) word) × (m ≡ digits_value 10 (take (i + 1) word)) × (m < 2 ^ 64)
+digits-more word i n m inside all is e =
+    let b = get_or word i 0 in
+    let some = one_more-some n m b e in
+    (digits_more 10 word i inside all (digit-value b some.0), some.1 ∙ ap (λ v. v * 10 + digit_value b) is ∙ sym (digits_value_more 10 word i inside), some.2)
+
+pub digits-none : (word : List ℕ) (i n : ℕ) → i < length word → n ≡ digits_value 10 (take i word) → None ≡ one_more n (get_or word i 0) → number_of word ≡ None
+digits-none word i n inside is e = elim (one_more-none n (get_or word i 0) e) [
+  | inl w ↦ number_of-no_digit word i inside w
+  | inr w ↦ number_of-large word (omega (arith, w, ap (λ v. v * 10 + digit_value (get_or word i 0)) is, digits_value_more 10 word i inside, digits_value-take-le 10 word (i + 1) (omega arith)))
+]

@@ -4,7 +4,6 @@ use Rattle.std.proofs.Math.Nat.{add-zero}
 use Rattle.std.proofs.lemmas.Bool.Decides.{eqb_tells}
 use Rattle.std.proofs.lemmas.List.{take-take, drop-drop, get_or-drop}
 use Rattle.std.proofs.lemmas.Slice.{between_is}
-use Rattle.dsm_lex.proofs.Cutting.{content_of-from}
 use Rattle.dsm_lex.specs.declared.spans.Span.{Span}
 use Rattle.dsm_lex.specs.Lexical.{spanned, content_of, LiesWithin, EachPlace}
 
@@ -13,15 +12,8 @@ pub take-front : (text : List ℕ) (n start end : ℕ) → end ≤ n → take (e
 take-front text n start end within = between_is (take n text) start end ∙ ap (drop start) (take-take end n text within) ∙ sym (between_is text start end)
 
 -- the content of a line, in the front of the text
-pub content_up_to : (text : List ℕ) (start end at : ℕ) →
-    let front = take end text in
-    start ≤ at → at ≤ length front → (at < length front → get_or front at 0 ≡ 59) → ((k : ℕ) → start ≤ k → k < at → get_or front k 0 ≢ 59) → drop start (take at text) ≡ content_of (take (end - start) (drop start text))
-content_up_to text start end at behind within found first =
-    let short : at ≤ end = omega (arith, length-take end text) in
-    sym (between_is text start at)
-    ∙ sym (take-front text end start at short)
-    ∙ sym (content_of-from (take end text) start at behind within found first)
-    ∙ ap content_of (sym (between_is text start end))
+pub content-front : (text : List ℕ) (start end : ℕ) → content_of (drop start (take end text)) ≡ content_of (take (end - start) (drop start text))
+content-front text start end = ap content_of (sym (between_is text start end))
 
 -- Of the words some are left, and the others have their spans.
 pub record Splits (text : List ℕ) (line : Span) (words left : List (List ℕ)) (count : ℕ) (at : List Span) : Type 0 where

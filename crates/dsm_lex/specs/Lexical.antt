@@ -41,6 +41,10 @@ content_of (b ∷ bytes) = if b == 59 then [] else b ∷ content_of bytes
 abbrev pub is_blank : ℕ → Bool
 is_blank b = (b == 32) || (b == 9) || (b == 13)
 
+-- a blank ends a word, and so does a semicolon, which begins a comment
+abbrev pub ends_word : ℕ → Bool
+ends_word b = is_blank b || (b == 59)
+
 -- the pieces of some bytes, which are cut at each blank
 abbrev pub pieces_of : List ℕ → List (List ℕ)
 pieces_of [] = [] ∷ []

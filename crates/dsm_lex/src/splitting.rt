@@ -1,7 +1,7 @@
-ghost use Rattle.std.specs.Prelude.{◌≡◌, ◌+◌, ◌-◌, ◌<◌, ◌≤◌, ◌^◌, [], ◌∷◌, length, drop, take, slice_set, slice_index_or, IfNone, IfSome};
+ghost use Rattle.std.specs.Prelude.{◌≡◌, ◌+◌, ◌-◌, ◌<◌, ◌≤◌, ◌^◌, [], ◌∷◌, length, drop, slice_set, slice_index_or, IfNone, IfSome};
 ghost use Rattle.dsm_lex.specs.Lexical.{spanned, content_of, words_of, LiesIn, LiesWithin, EachPlace};
 
-use crate::scanning::{first_blank, first_other, first_place};
+use crate::scanning::{first_end, first_other};
 use crate::spans::Span;
 
 /// The number of a line's words, and where the first six stand. A place without a word has the empty span at
@@ -36,7 +36,7 @@ pub fn split(text: &[u8], line: Span) -> Words
     ensures unused { EachPlace result.at (λ k word. result.count ≤ k → word ≡ record { start = line.end; end = line.end }) }
     ensures within { EachPlace result.at (λ k word. LiesWithin word line) }
 {
-    let content = up_to_content(text, line);
+    let front = &text[..line.end];
     let unused = Span {
         start: line.end,
         end: line.end,
@@ -46,38 +46,26 @@ pub fn split(text: &[u8], line: Span) -> Words
         at: [unused; 6],
     };
     let mut from = line.start;
-    while let Some(word) = first_word(content, from) {
+    while let Some(word) = next_word(front, from) {
         words.push(word);
         from = word.end;
     }
     words
 }
 
-/// The text up to the end of a line's content.
-fn up_to_content(text: &[u8], line: Span) -> &[u8]
-    requires { LiesIn line text.now }
-    ensures behind { line.start ≤ length result.now }
-    ensures within { length result.now ≤ line.end }
-    ensures front { result.now ≡ take (length result.now) text.now }
-    ensures content { drop line.start result.now ≡ content_of (spanned text.now line) }
-{
-    let end = first_place(&text[..line.end], line.start, b';');
-    &text[..end]
-}
-
-/// The first word from a place on.
-fn first_word(bytes: &[u8], from: usize) -> Option<Span>
+/// The first word from a place on, before the comment. What stands behind it is not looked at.
+pub fn next_word(bytes: &[u8], from: usize) -> Option<Span>
     requires { from ≤ length bytes.now }
-    ensures none { IfNone result (words_of (drop from bytes.now) ≡ []) }
-    ensures words { IfSome result (λ word. words_of (drop from bytes.now) ≡ spanned bytes.now word ∷ words_of (drop word.end bytes.now)) }
+    ensures none { IfNone result (words_of (content_of (drop from bytes.now)) ≡ []) }
+    ensures words { IfSome result (λ word. words_of (content_of (drop from bytes.now)) ≡ spanned bytes.now word ∷ words_of (content_of (drop word.end bytes.now))) }
     ensures behind { IfSome result (λ word. from ≤ word.start) }
     ensures some { IfSome result (λ word. word.start < word.end) }
     ensures within { IfSome result (λ word. word.end ≤ length bytes.now) }
 {
     let start = first_other(bytes, from);
-    if start == bytes.len() {
+    if start == bytes.len() || bytes[start] == b';' {
         return None;
     }
-    let end = first_blank(bytes, start);
+    let end = first_end(bytes, start);
     Some(Span { start, end })
 }

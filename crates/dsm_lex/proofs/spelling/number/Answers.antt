@@ -1,36 +1,23 @@
-use Rattle.std.proofs.Common.{◌≡◌, decimal, sym, ◌∙◌, ap, arith}
-use Rattle.std.specs.Result.{result_ok}
-use Rattle.std.proofs.lemmas.Fmt.{parse-decimal}
-use Rattle.std.proofs.lemmas.Slice.Eq.{bytes_eq-Decides}
-use Rattle.dsm_lex.proofs.Numbers.{number_of-back, number_of-none}
-use Rattle.dsm_lex.proofs.Texts.{IsUtf8-number, no_text, text_read}
+use Rattle.std.proofs.Common.{inl, inr, get_or, sym, ◌∙◌, subst, take_all, arith}
+use Rattle.std.specs.Str.Parse.{AllDigits, digits_value}
+use Rattle.dsm_lex.proofs.Numbers.{number_of-value, digits-more, digits-none}
 use Rattle.dsm_lex.proofs.spelling.number.Goals as goal
-
-pub returns-in_err-ok : goal.returns-in_err-ok
-returns-in_err-ok c =
-    c.from_residual.ensures ∙ sym (number_of-none c.args.word.now (λ n small e. no_text c.from_utf8.result c.args.word.now _ c.from_utf8.ensures.cases c.in_err-ok.ensures.value (IsUtf8-number c.args.word.now n small e)))
 
 pub returns-in_err-n : goal.returns-in_err-n
 returns-in_err-n c =
-    c.from_residual-in_err-n.ensures ∙ sym (number_of-none c.args.word.now (λ n small e.
-    let text = text_read c.from_utf8.result c.args.word.now _ c.in_ok-ok.field-0 c.from_utf8.ensures.cases c.in_ok-ok.ensures.value in
-    let read = parse-decimal 64 n c.in_ok-ok.field-0.now c.parse.result small small (text ∙ e) c.parse.ensures.value.0 in
-    let none = c.in_err-n.ensures.value ∙ ap result_ok read in
-    cc))
+    let word = c.args.word.now in
+    c.from_residual.ensures ∙ sym (digits-none word c.loop-byte.byte-index c.loop-byte.n c.loop-byte-test.true c.loop-byte.invariant.1 c.in_err-n.ensures)
 
-pub returns-then-eq : goal.returns-then-eq
-returns-then-eq c =
-    let printed : c.as_bytes.result.now ≡ decimal c.in_ok-n.n = c.as_bytes.ensures.value ∙ c.format.ensures.text in
-    let same = (bytes_eq-Decides c.as_bytes.result.now c.args.word.now).0 (sym c.eq.ensures ∙ c.if-eq.true) in
-    sym (number_of-back c.args.word.now c.in_ok-n.n (omega arith, sym same ∙ printed))
+pub loop-byte-preserved : goal.loop-byte-preserved
+loop-byte-preserved c = digits-more c.args.word.now c.loop-byte.byte-index c.loop-byte.n c.in_ok-n.n c.loop-byte-test.true c.loop-byte.invariant.0 c.loop-byte.invariant.1 c.in_ok-n.ensures
 
-pub returns-else-eq : goal.returns-else-eq
-returns-else-eq c = sym (number_of-none c.args.word.now (λ n small e.
-    let text = text_read c.from_utf8.result c.args.word.now _ c.in_ok-ok.field-0 c.from_utf8.ensures.cases c.in_ok-ok.ensures.value in
-    let read = parse-decimal 64 n c.in_ok-ok.field-0.now c.parse.result small small (text ∙ e) c.parse.ensures.value.0 in
-    let same : c.in_ok-n.n ≡ n = let s = c.in_ok-n.ensures.value ∙ ap result_ok read in cc in
-    let printed : c.as_bytes.result.now ≡ c.args.word.now = c.as_bytes.ensures.value ∙ c.format.ensures.text ∙ ap decimal same ∙ sym e in
-    let yes = (bytes_eq-Decides c.as_bytes.result.now c.args.word.now).1 printed in
-    let no = c.eq.ensures in
-    let false_is = c.if-eq.false in
-    cc))
+pub returns : goal.returns
+returns c =
+    let word = c.args.word.now in
+    let whole = take_all c.loop-byte.byte-index word (omega arith) in
+    sym (number_of-value word c.loop-byte.n (grind (arith)) (subst (AllDigits 10) whole c.loop-byte.invariant.0)
+    (λ zero_first. elim c.if-word-gt1.either [
+      | inl w ↦ grind (arith)
+      | inr w ↦ absurd (w zero_first)
+    ])
+    (rw whole at c.loop-byte.invariant.1) c.loop-byte.invariant.2)

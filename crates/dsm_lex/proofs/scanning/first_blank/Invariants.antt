@@ -1,6 +1,0 @@
-use Rattle.std.proofs.Common.{◌≡◌, ℕ, ◌<◌, ◌≤◌, get_or, false}
-use Rattle.dsm_lex.specs.Lexical.{is_blank}
-use Rattle.dsm_lex.proofs.scanning.first_blank.Given as goal
-
-abbrev pub invariant-loop-at : goal.invariant-loop-at
-invariant-loop-at l = (k : ℕ) → l.from ≤ k → k < l.at → is_blank (get_or l.bytes k 0) ≡ false
