@@ -1,5 +1,5 @@
-use Rattle.std.proofs.Common.{inl, inr, get_or, sym, ◌∙◌, subst, take_all, arith}
-use Rattle.std.specs.Str.Parse.{AllDigits, digits_value}
+use Rattle.std.proofs.Common.{inl, inr, sym, ◌∙◌, subst, take_all, arith}
+use Rattle.std.specs.Str.Parse.{AllDigits}
 use Rattle.dsm_lex.proofs.Numbers.{number_of-value, digits-more, digits-none}
 use Rattle.dsm_lex.proofs.spelling.number.Goals as goal
 
