@@ -1,7 +1,8 @@
-; Processor 0 produces 3 values and sets flag 0 after each; the others wait for each value, and print it. Run it with
-; `sim 1x3`.
-; Look at `waitr 0 r3`: it waits until the flag was set r3 times, so the value of that number is there when it is
-; loaded. With `wait 0 1` in its place the consumers wait for the first value alone, and print 0 for those that come later.
+; Processor 0 produces 3 values and sets flag 0 after each; the others wait for each value, and print it. Run it with `sim 1x3` and
+; `sim 3x1`.
+; Look at `waitr 0 r3`: it waits until the flag was set r3 times, so the value of that number is there when it is loaded, also on
+; another node: `set` sends the value home and tells the others, and behind `waitr` a node that was told gets the page anew. With
+; `wait 0 1` in its place the consumers wait for the first value alone, and print 0 for those that come later.
 .words 4
 .flags 1
 me r1

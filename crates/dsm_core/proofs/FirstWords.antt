@@ -8,8 +8,8 @@ use Rattle.std.proofs.lemmas.Bool.{eq-eqb, eqb-true}
 use Rattle.std.proofs.lemmas.List.{length-map, length-replicate, take_all, get_or-map}
 use Rattle.std.proofs.lemmas.List.FromFn.{length-map-range_with_len}
 use Rattle.dsm_words.specs.Place.{Lay, sizes, start, total}
-use Rattle.dsm_machine.specs.Machines.{sizes_in}
-use Rattle.dsm_core.specs.Setups.{Setup, initial, frames_of, first_words}
+use Rattle.dsm_protocol.specs.Own.{sizes_in}
+use Rattle.dsm_runs.specs.Setups.{Setup, initial, frames_of, first_words}
 
 -- a further value shows at its address, where none was given for it before, and nowhere else
 initial-other : (init : List (ℕ × ℕ)) (x : ℕ × ℕ) (w : ℕ) → w ≢ x.0 → initial (init ++ x ∷ []) w ≡ initial init w

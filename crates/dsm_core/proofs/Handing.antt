@@ -1,14 +1,14 @@
 -- A state that the calls make is a reached one, and what it leaves is as promised.
 use Rattle.std.proofs.Common.{◌≡◌, ℕ, [], ◌∷◌, ◌++◌, true, false, sym, ap, ◌∙◌, subst}
-use Rattle.dsm_core.specs.Setups.{Setup, IsSetup}
-use Rattle.dsm_core.specs.Clusters.{Cluster, Event, start, is_defined, after_event, IsReached}
-use Rattle.dsm_core.specs.Outcomes.{Ran, ran_of}
-use Rattle.dsm_core.specs.Promises.{Promises}
+use Rattle.dsm_runs.specs.Setups.{Setup, IsSetup}
+use Rattle.dsm_runs.specs.Clusters.{Cluster, Event, start, is_defined, after_event, IsReached}
+use Rattle.dsm_runs.specs.Outcomes.{Ran, ran_of}
+use Rattle.dsm_runs.specs.Promises.{Promises}
 use Rattle.dsm_core.specs.declared.state.Step.{Step}
 use Rattle.dsm_core.specs.declared.state.Step.TheVariants.{Did, Ended, NoMemory}
 use Rattle.dsm_core.specs.States.{IsEvent, Stepped}
-use Rattle.dsm_core.proofs.Promising.{every_run}
-use Rattle.dsm_core.proofs.Runs.{reached_none, are_defined_none, reached_one_more, are_defined_one_more}
+use Rattle.dsm_runs.proofs.Promising.{every_run}
+use Rattle.dsm_runs.proofs.Runs.{reached_none, are_defined_none, reached_one_more, are_defined_one_more}
 
 pub reached_start : (s : Setup) → IsReached s (start s)
 reached_start s = ([], are_defined_none s, sym (reached_none s))

@@ -12,14 +12,14 @@ use Rattle.dsm_words.specs.Homes.{master}
 use Rattle.dsm_words.specs.Place.{Lay, place}
 use Rattle.dsm_words.specs.Words.{word}
 use Rattle.dsm_machine.specs.declared.machine.Machine.{Machine}
-use Rattle.dsm_machine.specs.declared.counts.Counts.{Counts}
-use Rattle.dsm_machine.specs.Own.{added}
+use Rattle.dsm_protocol.specs.declared.counts.Counts.{Counts}
+use Rattle.dsm_protocol.specs.Own.{added}
 use Rattle.dsm_machine.specs.Machines.{processor_in}
-use Rattle.dsm_machine.specs.Processors.{Processor, ending}
-use Rattle.dsm_machine.specs.Jobs.{Job, Make, Again, Mark, Ask, Begin, Ended, end_of, has_ended}
-use Rattle.dsm_core.specs.Setups.{Setup, lay_in, addresses}
-use Rattle.dsm_core.specs.Outcomes.{total_of, total_counts}
-use Rattle.dsm_core.proofs.Lists.{slice_get-map-range_with_len}
+use Rattle.dsm_protocol.specs.Processors.{Processor, ending}
+use Rattle.dsm_protocol.specs.Jobs.{Job, Make, Again, Mark, Ask, Begin, Ended, end_of, has_ended}
+use Rattle.dsm_runs.specs.Setups.{Setup, lay_in, addresses}
+use Rattle.dsm_runs.specs.Outcomes.{total_of, total_counts}
+use Rattle.dsm_runs.proofs.Lists.{slice_get-map-range_with_len}
 
 -- the word of address w at its home
 abbrev pub master_word : Lay → List ℕ → ℕ → ℕ

@@ -12,16 +12,16 @@ use Rattle.dsm_words.specs.Script.{Act, Get}
 use Rattle.dsm_words.specs.Words.{done, reply}
 use Rattle.dsm_machine.specs.declared.machine.Machine.{Machine}
 use Rattle.dsm_machine.specs.Machines.{who, processor_in}
-use Rattle.dsm_machine.specs.Own.{Who}
-use Rattle.dsm_machine.specs.Jobs.{Job, Make, Again, Mark, Ask, Begin, Ended, end_of, has_ended, first_act, held_turn}
-use Rattle.dsm_machine.specs.Processors.{Processor, op_unless, ending, wanting, after_answer}
-use Rattle.dsm_core.specs.Setups.{Setup, lay_in, who_at}
-use Rattle.dsm_core.specs.Clusters.{Cluster, Event, answer, act_in, stays, after_loose}
+use Rattle.dsm_protocol.specs.Own.{Who}
+use Rattle.dsm_protocol.specs.Jobs.{Job, Make, Again, Mark, Ask, Begin, Ended, end_of, has_ended, first_act, held_turn}
+use Rattle.dsm_protocol.specs.Processors.{Processor, op_unless, ending, wanting, after_answer}
+use Rattle.dsm_runs.specs.Setups.{Setup, lay_in, who_at}
+use Rattle.dsm_runs.specs.Clusters.{Cluster, Event, answer, act_in, stays, after_loose}
 use Rattle.dsm_core.specs.declared.state.State.{State}
 use Rattle.dsm_core.specs.declared.state.Step.{Step}
 use Rattle.dsm_core.specs.declared.state.Step.TheVariants.{Did, NoMemory}
 use Rattle.dsm_core.specs.States.{IsEvent, Stepped, IsFor, setup_in, cluster_in}
-use Rattle.dsm_core.proofs.Lists.{slice_get-set_same, slice_get-set_other, some_one}
+use Rattle.dsm_runs.proofs.Lists.{slice_get-set_same, slice_get-set_other, some_one}
 
 -- an answer that is not given is that of the words
 answer_none : (a : Act) (x : ℕ) → answer None a x ≡ x

@@ -1,11 +1,1 @@
-pub mod Clusters
-pub mod Examples
-pub mod Laws
-pub mod Legality
-pub mod Moments
-pub mod Outcomes
-pub mod Promises
-pub mod Setups
 pub mod States
-pub mod Stopping
-pub mod Wanting

@@ -4,14 +4,14 @@ use Rattle.dsm_isa.specs.ProgramText.{ProgramText}
 use Rattle.dsm_isa.specs.declared.instr.Instr.{Instr}
 use Rattle.dsm_words.specs.declared.topology.Topology.{Topology}
 use Rattle.dsm_words.specs.Place.{lay_of}
-use Rattle.dsm_machine.specs.declared.limits.Limits.{Limits}
-use Rattle.dsm_machine.specs.Jobs.{has_ended}
+use Rattle.dsm_protocol.specs.declared.limits.Limits.{Limits}
+use Rattle.dsm_protocol.specs.Jobs.{has_ended}
 use Rattle.dsm_machine.specs.Machines.{processor_in, spare_of}
 use Rattle.dsm_core.specs.declared.state.State.{State}
 use Rattle.dsm_core.specs.declared.state.Step.{Step}
 use Rattle.dsm_core.specs.declared.state.Step.TheVariants.{Did, Ended, NoMemory}
-use Rattle.dsm_core.specs.Setups.{Setup, lay_in}
-use Rattle.dsm_core.specs.Clusters.{Cluster, Event, is_defined, after_event}
+use Rattle.dsm_runs.specs.Setups.{Setup, lay_in}
+use Rattle.dsm_runs.specs.Clusters.{Cluster, Event, is_defined, after_event}
 
 -- a program on a topology, with these limits
 abbrev pub setup_of : ProgramText → Topology → Limits → Setup

@@ -1,6 +1,5 @@
 // All processors and all words: what a run is, and its running state.
 #![tactic(auto)]
 
-pub mod laws;
 pub mod ran;
 pub mod state;

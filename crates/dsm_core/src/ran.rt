@@ -1,9 +1,9 @@
 ghost use Rattle.std.specs.Prelude.{◌≡◌, ◌↔◌, IsTrue};
-ghost use Rattle.dsm_core.specs.Outcomes.{AllHalted, SomeWants};
+ghost use Rattle.dsm_runs.specs.Outcomes.{AllHalted, SomeWants};
 
 use dsm_entry::trace::Trace;
 use dsm_local::end::End;
-use dsm_machine::counts::Counts;
+use dsm_protocol::counts::Counts;
 use std::marker::Model;
 
 /// What a run leaves: the trace and the end of each processor, the words of memory in order of their addresses, each
@@ -18,7 +18,7 @@ pub struct Ran {
 
 impl Model for Ran {
     ghost use Rattle.std.specs.Prelude.{map};
-    ghost use Rattle.dsm_core.specs.Outcomes.{Ran as Left};
+    ghost use Rattle.dsm_runs.specs.Outcomes.{Ran as Left};
 
     ghost Value = { Left };
 

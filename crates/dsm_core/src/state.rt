@@ -13,8 +13,8 @@ mod tests;
 use acting::{act, starves};
 use dsm_isa::program::Program;
 use dsm_local::end::End;
-use dsm_machine::limits::Limits;
 use dsm_machine::machine::Machine;
+use dsm_protocol::limits::Limits;
 use dsm_words::layout::Layout;
 
 /// All words and all processors of a cluster that runs a program. It doesn't hold the program: each call is given it.
@@ -45,8 +45,8 @@ pub enum Step {
 impl State {
     ghost use Rattle.std.specs.Prelude.{◌↔◌, ◌<◌, List, map, IsTrue};
     ghost use Rattle.dsm_isa.specs.declared.instr.Instr.{Instr};
-    ghost use Rattle.dsm_machine.specs.Processors.{ending};
-    ghost use Rattle.dsm_core.specs.Clusters.{IsReached};
+    ghost use Rattle.dsm_protocol.specs.Processors.{ending};
+    ghost use Rattle.dsm_runs.specs.Clusters.{IsReached};
     ghost use Rattle.dsm_core.specs.States.{setup_in, cluster_in, IsFor, Stepped, HasNoRoom, AllEnded};
 
     /// One event of processor `p`, where it has not ended. It takes memory for one entry at most, and where there is
@@ -66,8 +66,9 @@ impl State {
         if machine.end().is_some() {
             return Step::Ended;
         }
-        let starved = starves(machine);
-        act(&mut self.words, machine, program.code());
+        let code = program.code();
+        let starved = starves(machine, code);
+        act(&mut self.words, machine, code);
         event(starved)
     }
 

@@ -102,6 +102,7 @@ impl Reader {
     }
 
     /// What the reader does next.
+    #[inline(always)]
     pub fn next(&self, code: &Code, setting: Setting) -> Action
         ensures value { result ≡ next_action code.now setting self.now }
         ensures place { GoesOn result → self.now.place + 1 < 2 ^ 32 }
@@ -118,6 +119,7 @@ impl Reader {
     }
 
     /// What an instruction does.
+    #[inline(always)]
     fn action_of(&self, setting: Setting, instr: Instr) -> Action
         requires { self.now.place + 1 < 2 ^ 32 }
         ensures { result ≡ action_of setting self.now (Some instr) }
@@ -167,6 +169,7 @@ impl Reader {
     }
 
     /// What an instruction of arithmetic does.
+    #[inline(always)]
     fn computed(&self, setting: Setting, instr: Instr) -> Action
         requires { IsArithmetic instr }
         ensures { result ≡ action_of setting self.now (Some instr) }

@@ -1,6 +1,12 @@
-pub mod Causes
-pub mod Musts
-pub mod Reading
-pub mod Settling
-pub mod Turns
+pub mod Acquiring
+pub mod Calling
+pub mod Closings
+pub mod Fetching
+pub mod Finding
+pub mod Flags
+pub mod Framing
+pub mod Holding
+pub mod Releasing
+pub mod Settled
+pub mod Visiting
 pub mod Within

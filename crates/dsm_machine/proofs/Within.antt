@@ -13,8 +13,8 @@ use Rattle.dsm_local.specs.declared.setting.Setting.{Setting}
 use Rattle.dsm_local.specs.Actions.{value, address, word_at, load, store, give_back, open_pass, action_of}
 use Rattle.dsm_local.specs.Readers.{next_action, IsInside}
 use Rattle.dsm_words.specs.Place.{Lay}
-use Rattle.dsm_machine.specs.Machines.{sizes_in}
-use Rattle.dsm_machine.specs.Own.{Who, setting_of}
+use Rattle.dsm_protocol.specs.Own.{sizes_in}
+use Rattle.dsm_protocol.specs.Own.{Who, setting_of}
 use Rattle.dsm_machine.specs.Points.{IsWithinLay}
 
 -- the object of an action is one that there is

@@ -1,8 +1,10 @@
-pub mod Ends
-pub mod Jobs
-pub mod Laws
+pub mod Acquires
+pub mod Closings
+pub mod Dirty
+pub mod Faults
 pub mod Machines
-pub mod Own
+pub mod Phases
 pub mod Points
-pub mod Processors
-pub mod Steps
+pub mod Releases
+pub mod Results
+pub mod Writes

@@ -1,23 +1,31 @@
-ghost use Rattle.std.specs.Prelude.{◌≡◌, ◌+◌, ◌*◌, ◌^◌, ◌<◌, true};
+ghost use Rattle.std.specs.Prelude.{◌≡◌, ◌+◌, ◌*◌, ◌^◌, ◌<◌, true, None};
+ghost use Rattle.dsm_protocol.specs.Jobs.{held_turn};
 ghost use Rattle.dsm_words.specs.Place.{lay_of};
-ghost use Rattle.dsm_machine.specs.Points.{point_number, points_of, is_trying, lay_at, slack};
+ghost use Rattle.dsm_machine.specs.Phases.{phase_lay};
+ghost use Rattle.dsm_machine.specs.Points.{job_at, point_open, point_register, point_address, point_page, point_home, point_node, point_number, points_of, slack, place_slack};
 
-mod events;
+mod beginning;
+mod dirty;
+mod ending;
 mod ops;
 #[cfg(test)]
 mod tests;
+mod working;
 
-use crate::counts::Counts;
-use crate::head::Head;
-use crate::limits::Limits;
-use crate::point::Point;
+use crate::any_phase::AnyPhase;
+use crate::point::{Next, Point};
+use dsm_clock::draw::Draw;
 use dsm_entry::entry::NoMemory;
 use dsm_entry::trace::Trace;
 use dsm_isa::code::Code;
 use dsm_local::end::End;
 use dsm_local::reader::Reader;
+use dsm_protocol::counts::Counts;
+use dsm_protocol::head::Head;
+use dsm_protocol::limits::Limits;
 use dsm_words::layout::Layout;
 use dsm_words::op::Op;
+use dsm_words::turn::Turn;
 use std::alloc::Global;
 
 /// One processor. It makes no operation itself: `next` names its next one, and `after` takes the answer.
@@ -29,26 +37,43 @@ pub struct Machine {
     reader: Reader,
     trace: Trace,
     counts: Counts,
+    /// Its mapping of each page: 0 none, 1 read, 2 write, 3 wanted.
+    maps: [u8; 256],
+    /// Its dirty pages, 64 a word.
+    dirty: [u64; 4],
+    /// The phase under way, where its point is within one.
+    phase: AnyPhase,
     point: Point,
     ghost p_in: { p < lay.t.nodes * lay.t.procs },
+    ghost is_open: { point_open phase point ≡ true },
+    ghost lay_is: { phase_lay phase ≡ lay_of lay },
+    ghost register_in: { point_register point < 16 },
+    ghost address_in: { point_address point < lay.pages * lay.words },
+    ghost page_in: { point_page point < lay.pages },
+    ghost home_in: { point_home point < lay.t.nodes },
+    ghost node_in: { point_node point < lay.t.nodes },
     ghost object_in: { point_number point < points_of (lay_of lay) point },
-    ghost trying: { is_trying point ≡ true },
-    ghost lay_is: { lay_at (lay_of lay) point ≡ lay_of lay },
-    ghost place_in: { reader.place + 1 < 2 ^ 32 + slack point },
+    ghost place_in: { reader.place + 1 < 2 ^ 32 + place_slack point },
     ghost done_in: { reader.done + 1 < 2 ^ 64 + slack point },
+    // Where it holds a turn there is room for an entry, so that it can't then want memory.
+    ghost room: { trace.spare ≡ 0 → held_turn (job_at (record { lay = lay_of lay; p = p; limits = limits }) phase point) ≡ None },
 }
 
+const _: () = prove!(size_of::<Machine>() <= 2048);
+
 impl Machine {
-    ghost use Rattle.std.specs.Prelude.{◌≡◌, ℕ, ◌<◌, None, List, OnOk, OnErr, IsOk, IfSome};
+    ghost use Rattle.std.specs.Prelude.{ℕ, List, OnOk, OnErr, IsOk, IfSome};
     ghost use Rattle.dsm_isa.specs.declared.instr.Instr.{Instr as instruction};
     ghost use Rattle.dsm_isa.specs.Rules.{ObjectsInside};
     ghost use Rattle.dsm_words.specs.Op.{place_of};
     ghost use Rattle.dsm_words.specs.Place.{processors, total};
-    ghost use Rattle.dsm_machine.specs.Own.{new_own};
-    ghost use Rattle.dsm_machine.specs.Jobs.{Begin, held_turn};
-    ghost use Rattle.dsm_machine.specs.Processors.{settled, new_processor, ending, next_op, after_answer, wanting, IsMade};
-    ghost use Rattle.dsm_machine.specs.Laws.{IsLocal};
-    ghost use Rattle.dsm_machine.specs.Machines.{who, seen, processor_in, spare_of, HasRoom, sizes_in};
+    ghost use Rattle.dsm_protocol.specs.Own.{new_own, sizes_in, node_of};
+    ghost use Rattle.dsm_protocol.specs.Jobs.{Begin, job_after};
+    ghost use Rattle.dsm_protocol.specs.Laws.{IsLocal};
+    ghost use Rattle.dsm_protocol.specs.Processors.{settled, new_processor, ending, next_op, after_answer, wanting, IsMade};
+    ghost use Rattle.dsm_machine.specs.Machines.{who, own_of, seen, processor_in, spare_of, HasRoom};
+    ghost use Rattle.dsm_machine.specs.Phases.{phase_job, phase_open, noted};
+    ghost use Rattle.dsm_machine.specs.Points.{next_job, next_register, next_address, next_page, next_home, next_node, next_number, nexts_of, next_slack, has_begun};
 
     /// Processor `p`, which has done nothing. It takes no memory.
     pub fn new(alloc: Global, lay: Layout, p: u32, limits: Limits) -> Machine
@@ -63,6 +88,7 @@ impl Machine {
     }
 
     /// Processor `p` before its first instruction.
+    #[tactic(auto, using(crate::proofs::Flags::no_flags))]
     fn before_all(alloc: Global, lay: Layout, p: u32, limits: Limits) -> Machine
         requires { p < processors (lay_of lay) }
         ensures who { who result ≡ record { lay = lay_of lay; p = p; limits = limits } }
@@ -76,13 +102,16 @@ impl Machine {
             reader: Reader::new(),
             trace: Trace::new(alloc),
             counts: Counts::none(),
+            maps: [0; 256],
+            dirty: [0; 4],
+            phase: AnyPhase::Draw(Draw::new(lay, 0)),
             point: Point::At {
                 head: Head::Instruction,
             },
         }
     }
 
-    /// Makes room for one entry. Where there is room already, it takes no memory.
+    /// Makes room for one entry. Where there is room already, it takes no memory; where a turn is held there is.
     pub fn ready(&mut self) -> Result<(), NoMemory>
         ensures who { who self.new ≡ who self.old }
         ensures same { seen self.new ≡ seen self.old }
@@ -110,6 +139,24 @@ impl Machine {
         self.point = Point::Stopping { end: End::NoMemory };
     }
 
+    /// Where an instruction or a further look is to begin, its action is found, and kept until its first answer. `next` and
+    /// `after` find it themselves where it was not found before. It takes no memory.
+    #[inline(always)]
+    #[tactic(auto, using(crate::proofs::Holding::room_kept))]
+    pub fn begin(&mut self, code: &Code)
+        requires { ObjectsInside (sizes_in (who self.old).lay) code.now }
+        ensures who { who self.new ≡ who self.old }
+        ensures same { processor_in self.new code.now ≡ processor_in self.old code.now }
+        ensures begun { seen self.new ≡ processor_in self.old code.now }
+        ensures point { has_begun self.new.point ≡ true }
+        ensures room { HasRoom self.old → HasRoom self.new }
+        ensures spare { spare_of self.new ≡ spare_of self.old }
+    {
+        if let Point::At { head } = self.point {
+            self.begin_at(code, head);
+        }
+    }
+
     /// The next operation, and None exactly where the machine has ended. It takes no memory.
     pub fn next(&self, code: &Code) -> Option<Op>
         requires { ObjectsInside (sizes_in (who self.now).lay) code.now }
@@ -118,10 +165,8 @@ impl Machine {
     {
         match self.point {
             Point::At { head } => Some(self.op_at(code, head)),
-            Point::Trying { l: _, lock } => Some(self.op_of_try(lock)),
-            Point::Heeding { again: _ } => Some(self.look_at_stop()),
-            Point::Stopping { end: _ } => Some(self.stop_all()),
             Point::Over { end: _ } => None,
+            _ => Some(self.op_begun()),
         }
     }
 
@@ -147,12 +192,110 @@ impl Machine {
         ensures who { who self.new ≡ who self.old }
         ensures event { processor_in self.new code.now ≡ after_answer (who self.old) code.now (processor_in self.old code.now) got }
     {
+        self.begin(code);
+        self.answer(got);
+    }
+
+    /// Takes the answer of the operation before which it stands.
+    fn answer(&mut self, got: u64)
+        requires begun { has_begun self.old.point ≡ true }
+        requires runs { ending (seen self.old) ≡ None }
+        requires room { HasRoom self.old }
+        ensures who { who self.new ≡ who self.old }
+        ensures seen { seen self.new ≡ settled (own_of self.old) (job_after (seen self.old).todo got) }
+    {
         match self.point {
-            Point::At { head } => self.begin(code, head, got),
-            Point::Trying { l, lock } => self.tried(l, lock, got),
+            Point::Accessing { access } => self.accessed(access, got),
+            Point::Setting { d, v } => self.give(d, v),
+            Point::Jumping { to } => self.jump(to),
+            Point::Printing { v } => self.print(v),
+            Point::Working { next } => self.work(next, got),
             Point::Heeding { again } => self.heed(again, got),
             Point::Stopping { end } => self.point = Point::Over { end },
+            Point::At { head: _ } => unreachable!(),
             Point::Over { end: _ } => unreachable!(),
+        }
+    }
+
+    /// Its node.
+    pub(crate) fn node(&self) -> u32
+        ensures value { result ≡ node_of (who self.now) }
+        ensures within { result < self.now.lay.t.nodes }
+    {
+        self.lay.t.node_of(self.p)
+    }
+
+    /// A phase begins, while there is room for an entry.
+    #[tactic(auto, using(crate::proofs::Calling::settled_phase, crate::proofs::Holding::with_room))]
+    pub(crate) fn start(&mut self, phase: AnyPhase, next: Next)
+        requires is_open { phase_open phase ≡ true }
+        requires layout { phase_lay phase ≡ lay_of self.old.lay }
+        requires register { next_register next < 16 }
+        requires address { next_address next < self.old.lay.pages * self.old.lay.words }
+        requires page { next_page next < self.old.lay.pages }
+        requires home { next_home next < self.old.lay.t.nodes }
+        requires node { next_node next < self.old.lay.t.nodes }
+        requires object { next_number next < nexts_of (lay_of self.old.lay) next }
+        requires place { self.old.reader.place + 1 < 2 ^ 32 + next_slack next }
+        requires done { self.old.reader.done + 1 < 2 ^ 64 + next_slack next }
+        requires room { 0 < spare_of self.old }
+        ensures who { who self.new ≡ who self.old }
+        ensures seen { seen self.new ≡ settled (own_of self.old) (phase_job phase (next_job (who self.old) next)) }
+    {
+        self.phase = phase;
+        self.point = Point::Working { next };
+    }
+
+    /// A phase begins while no turn is held: there may be no room for an entry.
+    #[tactic(auto, using(crate::proofs::Calling::settled_phase))]
+    pub(crate) fn start_free(&mut self, phase: AnyPhase, next: Next)
+        requires is_open { phase_open phase ≡ true }
+        requires layout { phase_lay phase ≡ lay_of self.old.lay }
+        requires register { next_register next < 16 }
+        requires address { next_address next < self.old.lay.pages * self.old.lay.words }
+        requires page { next_page next < self.old.lay.pages }
+        requires home { next_home next < self.old.lay.t.nodes }
+        requires node { next_node next < self.old.lay.t.nodes }
+        requires object { next_number next < nexts_of (lay_of self.old.lay) next }
+        requires place { self.old.reader.place + 1 < 2 ^ 32 + next_slack next }
+        requires done { self.old.reader.done + 1 < 2 ^ 64 + next_slack next }
+        requires free { held_turn (phase_job phase (next_job (who self.old) next)) ≡ None }
+        ensures who { who self.new ≡ who self.old }
+        ensures seen { seen self.new ≡ settled (own_of self.old) (phase_job phase (next_job (who self.old) next)) }
+        ensures begun { has_begun self.new.point ≡ true }
+        ensures spare { spare_of self.new ≡ spare_of self.old }
+    {
+        self.phase = phase;
+        self.point = Point::Working { next };
+    }
+
+    /// Takes an answer within a phase.
+    fn work(&mut self, next: Next, got: u64)
+        requires at { self.old.point ≡ Point.Working next }
+        requires room { 0 < spare_of self.old }
+        ensures who { who self.new ≡ who self.old }
+        ensures seen { seen self.new ≡ settled (own_of self.old) (job_after (seen self.old).todo got) }
+    {
+        self.count_notice();
+        if let Turn::Done(out) = self.phase.after(got) {
+            self.point = Point::At {
+                head: Head::Instruction,
+            };
+            self.go_on(next, out);
+        }
+    }
+
+    /// Where its next operation posts a notice, that is counted.
+    fn count_notice(&mut self)
+        ensures who { who self.new ≡ who self.old }
+        ensures own { own_of self.new ≡ noted self.old.phase (own_of self.old) }
+        ensures phase { self.new.phase ≡ self.old.phase }
+        ensures point { self.new.point ≡ self.old.point }
+        ensures reader { self.new.reader ≡ self.old.reader }
+        ensures spare { spare_of self.new ≡ spare_of self.old }
+    {
+        if self.phase.is_posting() {
+            self.counts.notices = self.counts.notices.wrapping_add(1);
         }
     }
 

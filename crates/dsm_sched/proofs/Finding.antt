@@ -6,12 +6,12 @@ use Rattle.std.proofs.lemmas.List.Elements.{All-nil, All-cons, All-tail, Contain
 use Rattle.std.proofs.lemmas.List.FromFn.{length-range_with_len, get_or-range_with_len}
 use Rattle.std.proofs.lemmas.Option.{get_or_from_slice_get, slice_get-get_or, slice_get_within}
 use Rattle.dsm_local.specs.declared.end.End.{End}
-use Rattle.dsm_machine.specs.Jobs.{Job, Ended, has_ended, end_of}
-use Rattle.dsm_machine.specs.Processors.{Processor, ending}
-use Rattle.dsm_core.specs.Clusters.{Cluster, may_go}
+use Rattle.dsm_protocol.specs.Jobs.{Job, Ended, has_ended, end_of}
+use Rattle.dsm_protocol.specs.Processors.{Processor, ending}
+use Rattle.dsm_runs.specs.Clusters.{Cluster, may_go}
 use Rattle.dsm_core.specs.States.{AllEnded}
-use Rattle.dsm_core.proofs.Lists.{some_one}
-use Rattle.dsm_core.proofs.Promising.{item_of_map}
+use Rattle.dsm_runs.proofs.Lists.{some_one}
+use Rattle.dsm_runs.proofs.Promising.{item_of_map}
 use Rattle.dsm_sched.specs.Schedules.{first_running, cyclic}
 
 -- it is one that there is, and that has not ended

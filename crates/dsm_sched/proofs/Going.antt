@@ -1,15 +1,15 @@
 -- A schedule under way.
 use Rattle.std.proofs.Common.{◌≡◌, inl, inr, ℕ, ◌+◌, ◌*◌, ◌≤◌, Bool, true, false, List, [], ◌∷◌, ◌++◌, length, Option, Some, None, refl, sym, ap, ◌∙◌, subst, arith}
 use Rattle.std.specs.Prelude.{slice_get, IsTrue, IsSomeAnd, not}
-use Rattle.dsm_machine.specs.Jobs.{has_ended}
-use Rattle.dsm_machine.specs.Processors.{Processor}
-use Rattle.dsm_core.specs.Setups.{Setup}
-use Rattle.dsm_core.specs.Clusters.{Cluster, Event, AreDefined, may_go, is_defined, start, after_event, reached}
+use Rattle.dsm_protocol.specs.Jobs.{has_ended}
+use Rattle.dsm_protocol.specs.Processors.{Processor}
+use Rattle.dsm_runs.specs.Setups.{Setup}
+use Rattle.dsm_runs.specs.Clusters.{Cluster, Event, AreDefined, may_go, is_defined, start, after_event, reached}
 use Rattle.dsm_core.specs.declared.state.Step.{Step}
 use Rattle.dsm_core.specs.declared.state.Step.TheVariants.{Did, Ended, NoMemory}
 use Rattle.dsm_core.specs.States.{IsEvent, HasEnded, AllEnded, Stepped}
-use Rattle.dsm_core.proofs.Reaching.{length-reached}
-use Rattle.dsm_core.proofs.Runs.{reached_none, reached_one_more, are_defined_none, are_defined_one_more}
+use Rattle.dsm_runs.proofs.Reaching.{length-reached}
+use Rattle.dsm_runs.proofs.Runs.{reached_none, reached_one_more, are_defined_none, are_defined_one_more}
 use Rattle.dsm_sched.specs.declared.kind.Kind.TheVariants.{Round}
 use Rattle.dsm_sched.specs.Schedules.{cyclic, first_running, behind_last, next_by, IsScheduled, Begins, Goes, Leads}
 use Rattle.dsm_sched.proofs.Finding.{found_goes, all_ended}

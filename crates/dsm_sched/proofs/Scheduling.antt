@@ -3,11 +3,11 @@ use Rattle.std.proofs.Common.{◌≡◌, ◌⊎◌, inl, inr, ℕ, zero, suc, �
 use Rattle.std.specs.Prelude.{Contains}
 use Rattle.std.proofs.lemmas.List.Elements.{Contains-push, Contains-push_cases, Contains-append_left}
 use Rattle.std.proofs.lemmas.Option.{slice_get_within}
-use Rattle.dsm_core.specs.Setups.{Setup}
-use Rattle.dsm_core.specs.Clusters.{Event, reached}
+use Rattle.dsm_runs.specs.Setups.{Setup}
+use Rattle.dsm_runs.specs.Clusters.{Event, reached}
 use Rattle.dsm_core.specs.States.{AllEnded}
-use Rattle.dsm_core.proofs.Reaching.{length-reached}
-use Rattle.dsm_core.proofs.Runs.{defined_is}
+use Rattle.dsm_runs.proofs.Reaching.{length-reached}
+use Rattle.dsm_runs.proofs.Runs.{defined_is}
 use Rattle.dsm_sched.specs.declared.kind.Kind.{Kind}
 use Rattle.dsm_sched.specs.declared.kind.Kind.TheVariants.{Round}
 use Rattle.dsm_sched.specs.Schedules.{cyclic, behind_last, next_by, IsScheduled, Begins, Goes, Schedule, more, events_of}

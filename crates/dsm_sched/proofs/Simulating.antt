@@ -2,14 +2,14 @@
 use Rattle.std.proofs.Common.{◌≡◌, ◌⊎◌, inl, inr, ℕ, zero, suc, ◌<◌, Bool, true, false, List, [], ◌∷◌, length, map, Some, None, refl, sym, ap, ◌∙◌, subst, arith}
 use Rattle.std.specs.Prelude.{slice_get, Contains, IsTrue, not, ◌↔◌}
 use Rattle.dsm_local.specs.declared.end.End.TheVariants.{NoMemory}
-use Rattle.dsm_machine.specs.Processors.{ending}
-use Rattle.dsm_core.specs.Setups.{Setup}
-use Rattle.dsm_core.specs.Clusters.{Cluster, Event, AreDefined, reached}
-use Rattle.dsm_core.specs.Outcomes.{Ran, ran_of}
+use Rattle.dsm_protocol.specs.Processors.{ending}
+use Rattle.dsm_runs.specs.Setups.{Setup}
+use Rattle.dsm_runs.specs.Clusters.{Cluster, Event, AreDefined, reached}
+use Rattle.dsm_runs.specs.Outcomes.{Ran, ran_of}
 use Rattle.dsm_core.specs.States.{AllEnded}
-use Rattle.dsm_core.proofs.Promising.{item_of_map, map_of_item}
-use Rattle.dsm_core.proofs.Reaching.{length-reached}
-use Rattle.dsm_core.proofs.Wants.{every_want}
+use Rattle.dsm_runs.proofs.Promising.{item_of_map, map_of_item}
+use Rattle.dsm_runs.proofs.Reaching.{length-reached}
+use Rattle.dsm_runs.proofs.Wants.{every_want}
 use Rattle.dsm_sched.specs.declared.kind.Kind.{Kind}
 use Rattle.dsm_sched.specs.Schedules.{Leads, Schedule, Wants, Simulated}
 use Rattle.dsm_sched.proofs.Finding.{all_or_none, not_both}

@@ -2,9 +2,9 @@
 use Rattle.std.specs.Prelude.{◌≡◌, ◌↔◌, ◌⊎◌, ℕ, zero, suc, ◌+◌, ◌-◌, ◌*◌, ◌≤◌, Bool, true, false, IsTrue, if◌then◌else◌, List, [], ◌∷◌, ◌++◌, length, Option, None, Some, Contains, slice_get}
 use Rattle.std.specs.List.{range_with_len}
 use Rattle.dsm_local.specs.declared.end.End.TheVariants.{NoMemory}
-use Rattle.dsm_core.specs.Setups.{Setup}
-use Rattle.dsm_core.specs.Clusters.{Cluster, Event, AreDefined, may_go, reached}
-use Rattle.dsm_core.specs.Outcomes.{Ran, Outcome, ran_of}
+use Rattle.dsm_runs.specs.Setups.{Setup}
+use Rattle.dsm_runs.specs.Clusters.{Cluster, Event, AreDefined, may_go, reached}
+use Rattle.dsm_runs.specs.Outcomes.{Ran, Outcome, ran_of}
 use Rattle.dsm_core.specs.States.{AllEnded}
 use Rattle.dsm_sched.specs.declared.kind.Kind.{Kind}
 use Rattle.dsm_sched.specs.declared.kind.Kind.TheVariants.{Round}

@@ -2,7 +2,7 @@ ghost use Rattle.std.specs.Prelude.{◌≡◌, ◌-◌, ◌<◌, ◌≤◌, List
 ghost use Rattle.std.specs.List.{range_with_len};
 ghost use Rattle.dsm_isa.specs.declared.instr.Instr.{Instr};
 ghost use Rattle.dsm_words.specs.Place.{lay_of, processors};
-ghost use Rattle.dsm_core.specs.Clusters.{start};
+ghost use Rattle.dsm_runs.specs.Clusters.{start};
 ghost use Rattle.dsm_core.specs.States.{setup_of, setup_in, cluster_in, IsFor};
 ghost use Rattle.dsm_sched.specs.Schedules.{cyclic, first_running as first_of, Leads, Simulated};
 
@@ -11,7 +11,7 @@ use dsm_core::ran::Ran;
 use dsm_core::state::State;
 use dsm_entry::entry::NoMemory;
 use dsm_isa::program::Program;
-use dsm_machine::limits::Limits;
+use dsm_protocol::limits::Limits;
 use dsm_words::topology::Topology;
 use std::alloc::Global;
 

@@ -8,7 +8,7 @@ use dsm_isa::program::Program;
 use dsm_isa::reg::Reg;
 use dsm_isa::shape::Shape;
 use dsm_local::end::{End, Trap};
-use dsm_machine::limits::Limits;
+use dsm_protocol::limits::Limits;
 use dsm_words::topology::Topology;
 use std::alloc::Global;
 use std::process::Abort;
@@ -60,8 +60,8 @@ fn adds(k: u64) -> [Entry; 6] {
 }
 
 // Two processors add 1 to a word under a lock. Processor 1 loses its exchange against processor 0, finds the lock held,
-// and takes it once it is given back; processor 0 looks three times at the closing barrier before processor 1 arrives,
-// which passes it first. Processor 0 passes it in event 27.
+// and takes it once it is given back; processor 0 waits at the closing barrier until processor 1 arrives, which passes it
+// first. Behind its own pass processor 0 has the closing work, which ends with event 120.
 #[test]
 fn makes_as_many_events_as_allowed(rt: HostRuntime) -> Result<(), Fail> {
     let a = Reg::new(2).ok_or("no register")?;
@@ -77,10 +77,11 @@ fn makes_as_many_events_as_allowed(rt: HostRuntime) -> Result<(), Fail> {
     let halted = Some(End::Halted);
     let rows = [
         (0, true, None, None),
-        (25, true, None, None),
-        (26, true, None, halted),
-        (27, false, halted, halted),
-        (28, false, halted, halted),
+        (109, true, None, None),
+        (110, true, None, halted),
+        (119, true, None, halted),
+        (120, false, halted, halted),
+        (121, false, halted, halted),
     ];
     for (steps, cut, first, second) in rows {
         let left = simmed(rt.alloc(), &list, 2, steps)?;
@@ -91,11 +92,11 @@ fn makes_as_many_events_as_allowed(rt: HostRuntime) -> Result<(), Fail> {
             "after {steps}"
         );
     }
-    let left = simmed(rt.alloc(), &list, 2, 27)?;
+    let left = simmed(rt.alloc(), &list, 2, 120)?;
     has_trace(&rt, &left.ran, 0, &adds(0));
     has_trace(&rt, &left.ran, 1, &adds(1));
     assert_eq!(rt; left.ran.pages.as_slice(), [2].as_slice());
-    assert_eq!(rt; left.ran.counts.unready, 5);
+    assert_eq!(rt; left.ran.counts.unready, 25);
     Ok(())
 }
 
@@ -119,7 +120,7 @@ fn goes_round(rt: HostRuntime) -> Result<(), Fail> {
         at: 6,
         kind: Trap::NotHeld { l: 0 },
     });
-    for (steps, cut, last) in [(18, true, None), (19, false, trapped)] {
+    for (steps, cut, last) in [(32, true, None), (33, false, trapped)] {
         let left = simmed(rt.alloc(), &list, 3, steps)?;
         assert_eq!(rt; left.cut, cut, "after {steps}");
         assert_eq!(rt;

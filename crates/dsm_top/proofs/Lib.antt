@@ -1,5 +1,4 @@
 pub mod OnePlan
-pub mod Pages
 pub mod Running
 pub mod SettingWords
 pub mod Settings

@@ -1,16 +1,16 @@
 -- The words of a command line ask for one plan at most.
-use Rattle.std.proofs.Common.{◌≡◌, ◌≢◌, ℕ, suc, ◌<◌, ◌≤◌, ◌*◌, ◌^◌, List, [], ◌∷◌, ◌++◌, length, get_or, append_assoc, codes, decimal, map, All, refl, sym, ap, ◌∙◌, arith}
+use Rattle.std.proofs.Common.{◌≡◌, ◌≢◌, ℕ, suc, ◌<◌, ◌≤◌, ◌*◌, ◌^◌, Bool, List, [], ◌∷◌, ◌++◌, length, get_or, append_assoc, codes, decimal, map, All, refl, sym, ap, ◌∙◌, arith}
 use Rattle.std.proofs.lemmas.Fmt.{decimal_injective}
 use Rattle.std.proofs.lemmas.List.Elements.{All-head, All-tail}
 use mathlib.Core.HLevel.{is_prop→PathP}
 use native.Mathlib.Bridge.{le_prop}
 use Rattle.dsm_words.specs.declared.topology.Topology.{Topology}
-use Rattle.dsm_machine.specs.declared.limits.Limits.{Limits}
+use Rattle.dsm_protocol.specs.declared.limits.Limits.{Limits}
 use Rattle.dsm_sched.specs.declared.kind.Kind.{Kind}
 use Rattle.dsm_sched.specs.declared.kind.Kind.TheVariants.{Round}
 use Rattle.dsm_top.specs.declared.plans.Plan.TheVariants.{Check, List as Listing, Sim}
 use Rattle.dsm_top.specs.declared.plans.Setting.{Setting}
-use Rattle.dsm_top.specs.declared.plans.Setting.TheVariants.{Kind as OfKind, Turns, Looks, Steps}
+use Rattle.dsm_top.specs.declared.plans.Setting.TheVariants.{Kind as OfKind, Turns, Looks, Steps, Trace}
 use Rattle.dsm_top.specs.Plans.{topology_word, word_of, IsInRange, AskForSim, AskForOnePlan}
 use Rattle.dsm_top.proofs.Spelling.{no_x, same_behind}
 use Rattle.dsm_top.proofs.Words.{simulation_of}
@@ -52,21 +52,23 @@ topology-word_injective s t same =
 same_number : (name : List ℕ) (m n : ℕ) → m < 2 ^ 64 → n < 2 ^ 64 → name ++ decimal m ≡ name ++ decimal n → m ≡ n
 same_number name m n small less same = decimal_injective m n small less (same_behind (name ++ decimal m) name (decimal m) (decimal n) refl same)
 
--- the first byte of a setting's word tells what it sets
-abbrev first_byte : Setting → ℕ
-first_byte (OfKind kind) = 107
-first_byte (Turns n) = 116
-first_byte (Looks n) = 108
-first_byte (Steps n) = 115
+-- the second byte of a setting's word tells what it sets
+abbrev second_byte : Setting → ℕ
+second_byte (OfKind kind) = 105
+second_byte (Turns n) = 117
+second_byte (Looks n) = 111
+second_byte (Steps n) = 116
+second_byte Trace = 114
 
-first-word : (s : Setting) → get_or (word_of s) 0 0 ≡ first_byte s
-first-word (OfKind kind) = refl
-first-word (Turns n) = refl
-first-word (Looks n) = refl
-first-word (Steps n) = refl
+second-word : (s : Setting) → get_or (word_of s) 1 0 ≡ second_byte s
+second-word (OfKind kind) = refl
+second-word (Turns n) = refl
+second-word (Looks n) = refl
+second-word (Steps n) = refl
+second-word Trace = refl
 
-same_first : (a b : Setting) → word_of a ≡ word_of b → first_byte a ≡ first_byte b
-same_first a b same = sym (first-word a) ∙ ap (λ w. get_or w 0 0) same ∙ first-word b
+same_second : (a b : Setting) → word_of a ≡ word_of b → second_byte a ≡ second_byte b
+same_second a b same = sym (second-word a) ∙ ap (λ w. get_or w 1 0) same ∙ second-word b
 
 -- and a setting is given by its word
 word-injective : (a b : Setting) → IsInRange a → IsInRange b → word_of a ≡ word_of b → a ≡ b
@@ -74,18 +76,27 @@ word-injective (OfKind Round) (OfKind Round) within inside same = refl
 word-injective (Turns m) (Turns n) within inside same = ap Turns (same_number (codes "turns" ++ codes "=") m n (omega (arith, within)) (omega (arith, inside)) same)
 word-injective (Looks m) (Looks n) within inside same = ap Looks (same_number (codes "looks" ++ codes "=") m n (omega (arith, within)) (omega (arith, inside)) same)
 word-injective (Steps m) (Steps n) within inside same = ap Steps (same_number (codes "steps" ++ codes "=") m n (omega (arith, within)) (omega (arith, inside)) same)
-word-injective (OfKind k) (Turns n) within inside same = absurd (omega (arith, same_first (OfKind k) (Turns n) same))
-word-injective (OfKind k) (Looks n) within inside same = absurd (omega (arith, same_first (OfKind k) (Looks n) same))
-word-injective (OfKind k) (Steps n) within inside same = absurd (omega (arith, same_first (OfKind k) (Steps n) same))
-word-injective (Turns m) (OfKind k) within inside same = absurd (omega (arith, same_first (Turns m) (OfKind k) same))
-word-injective (Turns m) (Looks n) within inside same = absurd (omega (arith, same_first (Turns m) (Looks n) same))
-word-injective (Turns m) (Steps n) within inside same = absurd (omega (arith, same_first (Turns m) (Steps n) same))
-word-injective (Looks m) (OfKind k) within inside same = absurd (omega (arith, same_first (Looks m) (OfKind k) same))
-word-injective (Looks m) (Turns n) within inside same = absurd (omega (arith, same_first (Looks m) (Turns n) same))
-word-injective (Looks m) (Steps n) within inside same = absurd (omega (arith, same_first (Looks m) (Steps n) same))
-word-injective (Steps m) (OfKind k) within inside same = absurd (omega (arith, same_first (Steps m) (OfKind k) same))
-word-injective (Steps m) (Turns n) within inside same = absurd (omega (arith, same_first (Steps m) (Turns n) same))
-word-injective (Steps m) (Looks n) within inside same = absurd (omega (arith, same_first (Steps m) (Looks n) same))
+word-injective Trace Trace within inside same = refl
+word-injective (OfKind k) (Turns n) within inside same = absurd (omega (arith, same_second (OfKind k) (Turns n) same))
+word-injective (OfKind k) (Looks n) within inside same = absurd (omega (arith, same_second (OfKind k) (Looks n) same))
+word-injective (OfKind k) (Steps n) within inside same = absurd (omega (arith, same_second (OfKind k) (Steps n) same))
+word-injective (OfKind k) Trace within inside same = absurd (omega (arith, same_second (OfKind k) Trace same))
+word-injective (Turns m) (OfKind j) within inside same = absurd (omega (arith, same_second (Turns m) (OfKind j) same))
+word-injective (Turns m) (Looks n) within inside same = absurd (omega (arith, same_second (Turns m) (Looks n) same))
+word-injective (Turns m) (Steps n) within inside same = absurd (omega (arith, same_second (Turns m) (Steps n) same))
+word-injective (Turns m) Trace within inside same = absurd (omega (arith, same_second (Turns m) Trace same))
+word-injective (Looks m) (OfKind j) within inside same = absurd (omega (arith, same_second (Looks m) (OfKind j) same))
+word-injective (Looks m) (Turns n) within inside same = absurd (omega (arith, same_second (Looks m) (Turns n) same))
+word-injective (Looks m) (Steps n) within inside same = absurd (omega (arith, same_second (Looks m) (Steps n) same))
+word-injective (Looks m) Trace within inside same = absurd (omega (arith, same_second (Looks m) Trace same))
+word-injective (Steps m) (OfKind j) within inside same = absurd (omega (arith, same_second (Steps m) (OfKind j) same))
+word-injective (Steps m) (Turns n) within inside same = absurd (omega (arith, same_second (Steps m) (Turns n) same))
+word-injective (Steps m) (Looks n) within inside same = absurd (omega (arith, same_second (Steps m) (Looks n) same))
+word-injective (Steps m) Trace within inside same = absurd (omega (arith, same_second (Steps m) Trace same))
+word-injective Trace (OfKind j) within inside same = absurd (omega (arith, same_second Trace (OfKind j) same))
+word-injective Trace (Turns n) within inside same = absurd (omega (arith, same_second Trace (Turns n) same))
+word-injective Trace (Looks n) within inside same = absurd (omega (arith, same_second Trace (Looks n) same))
+word-injective Trace (Steps n) within inside same = absurd (omega (arith, same_second Trace (Steps n) same))
 
 words-injective : (xs ys : List Setting) → All IsInRange xs → All IsInRange ys → map word_of xs ≡ map word_of ys → xs ≡ ys
 words-injective [] [] within inside same = refl
@@ -99,22 +110,22 @@ words-injective (x ∷ xs) (y ∷ ys) within inside same =
     cc (head, tail)
 
 -- a plan to simulate is that of its topology and its settings
-simulation : (words : List (List ℕ)) (t : Topology) (limits : Limits) (kind : Kind) (steps : ℕ) (h : AskForSim words t limits kind steps) → Sim t limits kind steps ≡ simulation_of t h.settings
-simulation words t limits kind steps h = let a = h.given_limits in let b = h.given_kind in let c = h.given_steps in cc
+simulation : (words : List (List ℕ)) (t : Topology) (limits : Limits) (kind : Kind) (steps : ℕ) (trace : Bool) (h : AskForSim words t limits kind steps trace) → Sim t limits kind steps trace ≡ simulation_of t h.settings
+simulation words t limits kind steps trace h = let a = h.given_limits in let b = h.given_kind in let c = h.given_steps in let d = h.given_trace in cc
 
 pub one_plan : AskForOnePlan
 one_plan words Check Check one other = refl
 one_plan words Check Listing one other = absurd (cc (one, other))
-one_plan words Check (Sim t limits kind steps) one other = absurd (cc (one, other.spelt))
+one_plan words Check (Sim t limits kind steps trace) one other = absurd (cc (one, other.spelt))
 one_plan words Listing Check one other = absurd (cc (one, other))
 one_plan words Listing Listing one other = refl
-one_plan words Listing (Sim t limits kind steps) one other = absurd (cc (one, other.spelt))
-one_plan words (Sim t limits kind steps) Check one other = absurd (cc (other, one.spelt))
-one_plan words (Sim t limits kind steps) Listing one other = absurd (cc (other, one.spelt))
-one_plan words (Sim s limits kind steps) (Sim t limits' kind' steps') one other =
+one_plan words Listing (Sim t limits kind steps trace) one other = absurd (cc (one, other.spelt))
+one_plan words (Sim t limits kind steps trace) Check one other = absurd (cc (other, one.spelt))
+one_plan words (Sim t limits kind steps trace) Listing one other = absurd (cc (other, one.spelt))
+one_plan words (Sim s limits kind steps trace) (Sim t limits' kind' steps' trace') one other =
     let both : codes "sim" ∷ topology_word s ∷ one.others ≡ codes "sim" ∷ topology_word t ∷ other.others = sym one.spelt ∙ other.spelt in
     let second : topology_word s ≡ topology_word t = cc in
     let rest : one.others ≡ other.others = cc in
     let cluster = topology-word_injective s t second in
     let settings = words-injective one.settings other.settings one.set.in_range other.set.in_range (sym one.set.spelt ∙ rest ∙ other.set.spelt) in
-    simulation words s limits kind steps one ∙ ap (λ u. simulation_of u one.settings) cluster ∙ ap (simulation_of t) settings ∙ sym (simulation words t limits' kind' steps' other)
+    simulation words s limits kind steps trace one ∙ ap (λ u. simulation_of u one.settings) cluster ∙ ap (simulation_of t) settings ∙ sym (simulation words t limits' kind' steps' trace' other)

@@ -9,18 +9,18 @@ use Rattle.dsm_isa.specs.Rules.{ObjectsInside}
 use Rattle.dsm_words.specs.declared.topology.Topology.{Topology}
 use Rattle.dsm_words.specs.Homes.{master}
 use Rattle.dsm_words.specs.Words.{word}
-use Rattle.dsm_machine.specs.declared.limits.Limits.{Limits}
-use Rattle.dsm_core.specs.Setups.{Setup, IsSetup, lay_in}
-use Rattle.dsm_core.specs.Clusters.{reached}
-use Rattle.dsm_core.specs.Outcomes.{Ran}
-use Rattle.dsm_core.specs.Promises.{EveryRunKeepsThem, OneNodeKeepsWords, AloneIsOrdered}
+use Rattle.dsm_protocol.specs.declared.limits.Limits.{Limits}
+use Rattle.dsm_runs.specs.Setups.{Setup, IsSetup, lay_in}
+use Rattle.dsm_runs.specs.Clusters.{reached}
+use Rattle.dsm_runs.specs.Outcomes.{Ran}
+use Rattle.dsm_runs.specs.Promises.{EveryRunKeepsThem, OneNodeKeepsWords, AloneIsOrdered}
 use Rattle.dsm_core.specs.States.{setup_of}
 use Rattle.dsm_sched.specs.declared.kind.Kind.{Kind}
 use Rattle.dsm_sched.specs.Schedules.{Simulated}
 use Rattle.dsm_top.specs.declared.plans.Plan.{Plan}
 use Rattle.dsm_top.specs.declared.plans.Plan.TheVariants.{Check, List as Listing, Sim}
 use Rattle.dsm_top.specs.declared.plans.Setting.{Setting}
-use Rattle.dsm_top.specs.declared.plans.Setting.TheVariants.{Kind as OfKind, Turns, Looks, Steps}
+use Rattle.dsm_top.specs.declared.plans.Setting.TheVariants.{Kind as OfKind, Turns, Looks, Steps, Trace}
 use Rattle.dsm_top.specs.Plans.{PlanOf, IsInRange, topology_word, turns_in}
 use Rattle.dsm_top.specs.Run.{IsRunnable, Runs}
 use Rattle.dsm_top.specs.Streams.{Reading}
@@ -32,14 +32,14 @@ pages_many s kind steps ran cut h =
     ap (λ r. length r.pages) (sym h.outcome.leaves) ∙ length-map-range_with_len (λ w. word (lay_in s) (reached s h.events).words (master (lay_in s) (reached s h.events).words w)) 0 (s.program.shape.pages * s.program.shape.words)
 
 -- a simulated run is as promised
-pub runs_are : (t : Topology) (limits : Limits) (kind : Kind) (steps : ℕ) (p : ProgramText) (ran : Ran) (cut : Bool) → EveryRunKeepsThem → OneNodeKeepsWords → AloneIsOrdered → t.nodes ≡ 1 → IsSetup (setup_of p t limits) → Simulated kind (setup_of p t limits) steps ran cut → Runs t limits kind steps p ran
-runs_are t limits kind steps p ran cut runs words alone one setup h =
+pub runs_are : (t : Topology) (limits : Limits) (kind : Kind) (steps : ℕ) (p : ProgramText) (ran : Ran) (cut : Bool) → EveryRunKeepsThem → OneNodeKeepsWords → AloneIsOrdered → IsSetup (setup_of p t limits) → Simulated kind (setup_of p t limits) steps ran cut → Runs t limits kind steps p ran
+runs_are t limits kind steps p ran cut runs words alone setup h =
     let s = setup_of p t limits in
     record {
       cut = cut;
       simulated = h;
       promises = runs s h.events ran setup h.outcome;
-      words = words s h.events ran setup one h.outcome;
+      words = λ one. words s h.events ran setup one h.outcome;
       alone = λ single. alone s h.events ran single h.outcome;
     }
 
@@ -50,20 +50,19 @@ turns_most (Turns n ∷ settings) all = (All-head IsInRange (Turns n) settings a
 turns_most (OfKind kind ∷ settings) all = turns_most settings (All-tail IsInRange (OfKind kind) settings all)
 turns_most (Looks n ∷ settings) all = turns_most settings (All-tail IsInRange (Looks n) settings all)
 turns_most (Steps n ∷ settings) all = turns_most settings (All-tail IsInRange (Steps n) settings all)
+turns_most (Trace ∷ settings) all = turns_most settings (All-tail IsInRange Trace settings all)
 
 -- a plan and a program that there are can be run
 pub runnable : (words : List (List ℕ)) (plan : Plan) (p : ProgramText) → PlanOf words plan → IsWithinLimits p.shape.pages p.shape.words p.shape.locks p.shape.barriers p.shape.flags → ObjectsInside p.shape p.code → IsRunnable plan p
 runnable words Check p asked sizes objects = tt
 runnable words Listing p asked sizes objects = tt
-runnable words (Sim t limits kind steps) p asked sizes objects =
-    let few : limits.turns ≤ 1000000 = subst (λ n. n ≤ 1000000) (sym (ap (λ l. l.turns) asked.given_limits)) (turns_most asked.settings asked.set.in_range) in (
-      asked.one_node,
-      record { objects = objects; sizes = sizes; nodes = (t.some_nodes, t.most_nodes); procs = (t.some_procs, t.most_procs); all = t.most_all; turns = few },
-    )
+runnable words (Sim t limits kind steps trace) p asked sizes objects =
+    let few : limits.turns ≤ 1000000 = subst (λ n. n ≤ 1000000) (sym (ap (λ l. l.turns) asked.given_limits)) (turns_most asked.settings asked.set.in_range) in
+    record { objects = objects; sizes = sizes; nodes = (t.some_nodes, t.most_nodes); procs = (t.some_procs, t.most_procs); all = t.most_all; turns = few }
 
 -- where there is a run, the words ask for it
 pub asked_to : (words : List (List ℕ)) (plan : Plan) (p : ProgramText) (ran : Option Ran) (bytes : List ℕ) → PlanOf words plan → Answers plan p ran bytes → IsSome ran → AskToRun words
-asked_to words (Sim t limits kind steps) p ran bytes asked answers some = (t, limits, kind, steps, asked)
+asked_to words (Sim t limits kind steps trace) p ran bytes asked answers some = (t, limits, kind, steps, trace, asked)
 asked_to words Check p (Some a) bytes asked answers some = absurd (cc answers.0)
 asked_to words Listing p (Some a) bytes asked answers some = absurd (cc answers.0)
 asked_to words Check p None bytes asked answers some = absurd (cc some)
@@ -71,8 +70,8 @@ asked_to words Listing p None bytes asked answers some = absurd (cc some)
 
 -- and it is the run of the program that was read
 pub has_run : (words : List (List ℕ)) (r : Reading) (plan : Plan) (p : ProgramText) (ran : Option Ran) (bytes : List ℕ) → PlanOf words plan → ReadsProgram r p → Answers plan p ran bytes → IfSome ran (HasRun words r)
-has_run words r (Sim t limits kind steps) p (Some a) bytes asked read answers = record { t = t; limits = limits; kind = kind; steps = steps; asked = asked; program = p; read = read; runs = answers.0 }
-has_run words r (Sim t limits kind steps) p None bytes asked read answers = tt
+has_run words r (Sim t limits kind steps trace) p (Some a) bytes asked read answers = record { t = t; limits = limits; kind = kind; steps = steps; trace = trace; asked = asked; program = p; read = read; runs = answers.0 }
+has_run words r (Sim t limits kind steps trace) p None bytes asked read answers = tt
 has_run words r Check p (Some a) bytes asked read answers = absurd (cc answers.0)
 has_run words r Listing p (Some a) bytes asked read answers = absurd (cc answers.0)
 has_run words r Check p None bytes asked read answers = tt
@@ -80,7 +79,7 @@ has_run words r Listing p None bytes asked read answers = tt
 
 -- and there is one where they do
 pub has_ran : (words : List (List ℕ)) (plan : Plan) (p : ProgramText) (ran : Option Ran) (bytes : List ℕ) → PlanOf words plan → Answers plan p ran bytes → AskToRun words → IsSome ran
-has_ran words (Sim t limits kind steps) p (Some a) bytes asked answers ask = refl
-has_ran words (Sim t limits kind steps) p None bytes asked answers ask = absurd answers
-has_ran words Check p ran bytes asked answers (t, limits, kind, steps, ask) = absurd (let is : codes "check" ∷ [] ≡ codes "sim" ∷ topology_word t ∷ ask.others = sym asked ∙ ask.spelt in cc)
-has_ran words Listing p ran bytes asked answers (t, limits, kind, steps, ask) = absurd (let is : codes "list" ∷ [] ≡ codes "sim" ∷ topology_word t ∷ ask.others = sym asked ∙ ask.spelt in cc)
+has_ran words (Sim t limits kind steps trace) p (Some a) bytes asked answers ask = refl
+has_ran words (Sim t limits kind steps trace) p None bytes asked answers ask = absurd answers
+has_ran words Check p ran bytes asked answers (t, limits, kind, steps, trace, ask) = absurd (let is : codes "check" ∷ [] ≡ codes "sim" ∷ topology_word t ∷ ask.others = sym asked ∙ ask.spelt in cc)
+has_ran words Listing p ran bytes asked answers (t, limits, kind, steps, trace, ask) = absurd (let is : codes "list" ∷ [] ≡ codes "sim" ∷ topology_word t ∷ ask.others = sym asked ∙ ask.spelt in cc)

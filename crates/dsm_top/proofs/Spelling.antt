@@ -35,27 +35,25 @@ topology-halves word r split t is =
     split_after 120 word (decimal t.nodes) (decimal t.procs) r split (lit< tt) (is ∙ append_assoc (decimal t.nodes) (codes "x") (decimal t.procs)) (no_x t.nodes (omega (arith, t.most_nodes)))
 
 -- the word of the topology that was made of its two halves
-pub topology-made : (word : List ℕ) (nodes procs : Bor (List ℕ)) (n c : ℕ) (r : Result Topology TopoFault) → IsSplitOnceResult 120 word (Some (nodes, procs)) → nodes.now ≡ decimal n → procs.now ≡ decimal c → n ≡ 1
-    → IfOk r (λ t. (t.nodes ≡ n) × (t.procs ≡ c)) → IfSome (result_ok r) (λ t. (t.nodes ≡ 1) × (word ≡ topology_word t))
-topology-made word nodes procs n c (Err e) split first second one made = tt
-topology-made word nodes procs n c (Ok t) split first second one made =
-    let cut = (split_parts 120 word (Some (nodes, procs)) split (lit< tt)).0 in (
-      made.0 ∙ one,
-      cut ∙ ap (λ w. w ++ (120 ∷ procs.now)) (first ∙ ap decimal (sym made.0)) ∙ ap (λ w. decimal t.nodes ++ (120 ∷ w)) (second ∙ ap decimal (sym made.1))
-          ∙ sym (append_assoc (decimal t.nodes) (codes "x") (decimal t.procs)),
-    )
+pub topology-made : (word : List ℕ) (nodes procs : Bor (List ℕ)) (n c : ℕ) (r : Result Topology TopoFault) → IsSplitOnceResult 120 word (Some (nodes, procs)) → nodes.now ≡ decimal n → procs.now ≡ decimal c
+    → IfOk r (λ t. (t.nodes ≡ n) × (t.procs ≡ c)) → IfSome (result_ok r) (λ t. word ≡ topology_word t)
+topology-made word nodes procs n c (Err e) split first second made = tt
+topology-made word nodes procs n c (Ok t) split first second made =
+    let cut = (split_parts 120 word (Some (nodes, procs)) split (lit< tt)).0 in
+    cut ∙ ap (λ w. w ++ (120 ∷ procs.now)) (first ∙ ap decimal (sym made.0)) ∙ ap (λ w. decimal t.nodes ++ (120 ∷ w)) (second ∙ ap decimal (sym made.1))
+    ∙ sym (append_assoc (decimal t.nodes) (codes "x") (decimal t.procs))
 
--- numbers that make no topology of one node are out of range
+-- numbers that make no topology are out of range
 module _ (n c : ℕ) (r : Result Topology TopoFault) (nodes : (r ≡ Err Nodes) ↔ IsNotFrom1To 8 n) (procs : (r ≡ Err Procs) ↔ (IsFrom1To 8 n × IsNotFrom1To 8 c))
-    (product : (r ≡ Err Product) ↔ (IsFrom1To 8 n × IsFrom1To 8 c × (32 < n * c))) (one : n ≡ 1) where
-  fault-none : (e : TopoFault) → r ≡ Err e → IsFrom1To 8 c → ⊥
-  fault-none Nodes is range = let out = nodes.0 is in omega (arith, out, one)
-  fault-none Procs is range = let out = (procs.0 is).1 in omega (arith, out, range)
-  fault-none Product is range = let out : 32 < 1 * c = rw one at ((product.0 is).2) in omega (arith, out, range)
+    (product : (r ≡ Err Product) ↔ (IsFrom1To 8 n × IsFrom1To 8 c × (32 < n * c))) where
+  fault-none : (e : TopoFault) → r ≡ Err e → (t : Topology) → n ≡ t.nodes → c ≡ t.procs → ⊥
+  fault-none Nodes is t first second = let out = nodes.0 is in omega (arith, out, first, t.some_nodes, t.most_nodes)
+  fault-none Procs is t first second = let out = (procs.0 is).1 in omega (arith, out, second, t.some_procs, t.most_procs)
+  fault-none Product is t first second = let out : 32 < t.nodes * t.procs = rw (sym first, sym second) ((product.0 is).2) in omega (arith, out, t.most_all)
 
-  pub topology-refused : (word : List ℕ) → ((t : Topology) → word ≡ topology_word t → c ≡ t.procs) → IfNone (result_ok r) ((t : Topology) → t.nodes ≡ 1 → word ≡ topology_word t → ⊥)
+  pub topology-refused : (word : List ℕ) → ((t : Topology) → word ≡ topology_word t → (n ≡ t.nodes) × (c ≡ t.procs)) → IfNone (result_ok r) ((t : Topology) → word ≡ topology_word t → ⊥)
   topology-refused word same = go r refl
     where
-      go : (made : Result Topology TopoFault) → r ≡ made → IfNone (result_ok made) ((t : Topology) → t.nodes ≡ 1 → word ≡ topology_word t → ⊥)
+      go : (made : Result Topology TopoFault) → r ≡ made → IfNone (result_ok made) ((t : Topology) → word ≡ topology_word t → ⊥)
       go (Ok t) is = tt
-      go (Err e) is = λ t single word_is. let procs_is = same t word_is in fault-none e is (omega (arith, procs_is, t.some_procs), omega (arith, procs_is, t.most_procs))
+      go (Err e) is = λ t word_is. let (first, second) = same t word_is in fault-none e is t first second

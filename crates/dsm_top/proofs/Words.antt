@@ -8,7 +8,7 @@ use Rattle.dsm_words.specs.declared.topology.Topology.{Topology}
 use Rattle.dsm_top.specs.declared.plans.Plan.{Plan}
 use Rattle.dsm_top.specs.declared.plans.Plan.TheVariants.{Check, List as Listing, Sim}
 use Rattle.dsm_top.specs.declared.plans.Setting.{Setting}
-use Rattle.dsm_top.specs.Plans.{texts, topology_word, IsInRange, AreSettings, AreSome, turns_in, looks_in, kind_in, steps_in, PlanOf, BeginsPlan, FirstFault, FirstUnset}
+use Rattle.dsm_top.specs.Plans.{texts, topology_word, IsInRange, AreSettings, AreSome, turns_in, looks_in, kind_in, steps_in, trace_in, PlanOf, BeginsPlan, FirstFault, FirstUnset}
 use Rattle.dsm_top.proofs.SettingWords.{AreSettings-before}
 
 -- what is given, or the default
@@ -18,10 +18,10 @@ in-given of settings (Some x) d given = ap (λ xs. slice_index_or xs 0 d) given
 
 -- the plan to simulate this cluster with these settings
 abbrev pub simulation_of : Topology → List Setting → Plan
-simulation_of t settings = Sim t (record { turns = turns_in settings; looks = Some (looks_in settings) }) (kind_in settings) (steps_in settings)
+simulation_of t settings = Sim t (record { turns = turns_in settings; looks = Some (looks_in settings) }) (kind_in settings) (steps_in settings) (trace_in settings)
 
-pub simulation-asked : (t : Topology) → t.nodes ≡ 1 → (words : List (List ℕ)) (settings : List Setting) → AreSettings words settings → PlanOf (codes "sim" ∷ topology_word t ∷ words) (simulation_of t settings)
-simulation-asked t one words settings are = record { others = words; settings = settings; spelt = refl; one_node = one; set = are; given_limits = refl; given_kind = refl; given_steps = refl }
+pub simulation-asked : (t : Topology) (words : List (List ℕ)) (settings : List Setting) → AreSettings words settings → PlanOf (codes "sim" ∷ topology_word t ∷ words) (simulation_of t settings)
+simulation-asked t words settings are = record { others = words; settings = settings; spelt = refl; set = are; given_limits = refl; given_kind = refl; given_steps = refl; given_trace = refl }
 
 -- the smallest cluster, and no settings
 one_by_one : Topology
@@ -34,23 +34,23 @@ no_settings = record { spelt = refl; in_range = All-nil IsInRange; differ = λ i
 abbrev command_of : Plan → List ℕ
 command_of Check = codes "check"
 command_of Listing = codes "list"
-command_of (Sim t limits kind steps) = codes "sim"
+command_of (Sim t limits kind steps trace) = codes "sim"
 
 command-first : (x : List ℕ) (words : List (List ℕ)) (p : Plan) → PlanOf (x ∷ words) p → x ≡ command_of p
 command-first x words Check h = cc
 command-first x words Listing h = cc
-command-first x words (Sim t limits kind steps) h = let spelt = h.spelt in cc
+command-first x words (Sim t limits kind steps trace) h = let spelt = h.spelt in cc
 
 none_is_a_plan : (p : Plan) → PlanOf [] p → ⊥
 none_is_a_plan Check h = cc h
 none_is_a_plan Listing h = cc h
-none_is_a_plan (Sim t limits kind steps) h = cc (h.spelt)
+none_is_a_plan (Sim t limits kind steps trace) h = cc (h.spelt)
 
 -- only `sim` has words behind it
 sim-longer : (x y : List ℕ) (words : List (List ℕ)) (p : Plan) → PlanOf (x ∷ y ∷ words) p → x ≡ codes "sim"
 sim-longer x y words Check h = absurd (cc h)
 sim-longer x y words Listing h = absurd (cc h)
-sim-longer x y words (Sim t limits kind steps) h = let spelt = h.spelt in cc
+sim-longer x y words (Sim t limits kind steps trace) h = let spelt = h.spelt in cc
 
 -- no words, and a first word that is no command
 pub fault-no_words : FirstFault [] 1
@@ -59,7 +59,7 @@ fault-no_words = record { numbered = omega arith; before = (codes "check" ∷ []
 no_command : (x : List ℕ) → x ≢ codes "check" → x ≢ codes "list" → x ≢ codes "sim" → (p : Plan) → x ≢ command_of p
 no_command x check list sim Check is = check is
 no_command x check list sim Listing is = list is
-no_command x check list sim (Sim t limits kind steps) is = sim is
+no_command x check list sim (Sim t limits kind steps trace) is = sim is
 
 pub fault-no_command : (x : List ℕ) (words : List (List ℕ)) → x ≢ codes "check" → x ≢ codes "list" → x ≢ codes "sim" → FirstFault (x ∷ words) 1
 fault-no_command x words check list sim = record {
@@ -79,43 +79,43 @@ fault-behind x y words p alone other = record {
 -- `sim` with no word behind it, and with one that is no topology
 begins_sim : BeginsPlan (codes "sim" ∷ [])
 unfolding one_by_one
-begins_sim = (topology_word one_by_one ∷ [], simulation_of one_by_one [], simulation-asked one_by_one refl [] [] no_settings)
+begins_sim = (topology_word one_by_one ∷ [], simulation_of one_by_one [], simulation-asked one_by_one [] [] no_settings)
 
 sim-alone : (p : Plan) → PlanOf (codes "sim" ∷ []) p → ⊥
 sim-alone Check h = cc h
 sim-alone Listing h = cc h
-sim-alone (Sim t limits kind steps) h = cc (h.spelt)
+sim-alone (Sim t limits kind steps trace) h = cc (h.spelt)
 
 pub fault-sim_alone : FirstFault (codes "sim" ∷ []) 2
 fault-sim_alone = record { numbered = omega arith; before = begins_sim; fault = inr (refl, sim-alone) }
 
-topology-second : (y : List ℕ) (words : List (List ℕ)) (p : Plan) → PlanOf (codes "sim" ∷ y ∷ words) p → (t : Topology) × (t.nodes ≡ 1) × (y ≡ topology_word t)
+topology-second : (y : List ℕ) (words : List (List ℕ)) (p : Plan) → PlanOf (codes "sim" ∷ y ∷ words) p → (t : Topology) × (y ≡ topology_word t)
 topology-second y words Check h = absurd (cc h)
 topology-second y words Listing h = absurd (cc h)
-topology-second y words (Sim t limits kind steps) h = (t, h.one_node, let spelt = h.spelt in cc)
+topology-second y words (Sim t limits kind steps trace) h = (t, let spelt = h.spelt in cc)
 
-pub fault-topology : (y : List ℕ) (words : List (List ℕ)) → ((t : Topology) → t.nodes ≡ 1 → y ≡ topology_word t → ⊥) → FirstFault (codes "sim" ∷ y ∷ words) 2
+pub fault-topology : (y : List ℕ) (words : List (List ℕ)) → ((t : Topology) → y ≡ topology_word t → ⊥) → FirstFault (codes "sim" ∷ y ∷ words) 2
 fault-topology y words none = record {
   numbered = omega arith;
   before = begins_sim;
-  fault = inl (omega arith, λ (more, p, h). let (t, one, is) = topology-second y more p h in none t one is);
+  fault = inl (omega arith, λ (more, p, h). let (t, is) = topology-second y more p h in none t is);
 }
 
 -- a word behind the topology that sets nothing, or what one before it does
 settings-behind : (y : List ℕ) (words : List (List ℕ)) (p : Plan) → PlanOf (codes "sim" ∷ y ∷ words) p → AreSome words
 settings-behind y words Check h = absurd (cc h)
 settings-behind y words Listing h = absurd (cc h)
-settings-behind y words (Sim t limits kind steps) h = let spelt = h.spelt in let same : h.others ≡ words = cc in (h.settings, subst (λ ws. AreSettings ws h.settings) same h.set)
+settings-behind y words (Sim t limits kind steps trace) h = let spelt = h.spelt in let same : h.others ≡ words = cc in (h.settings, subst (λ ws. AreSettings ws h.settings) same h.set)
 
-pub fault-setting : (t : Topology) → t.nodes ≡ 1 → (words : List (List ℕ)) (k : ℕ) → FirstUnset words k → FirstFault (codes "sim" ∷ topology_word t ∷ words) (k + 2)
-fault-setting t one words k f =
+pub fault-setting : (t : Topology) (words : List (List ℕ)) (k : ℕ) → FirstUnset words k → FirstFault (codes "sim" ∷ topology_word t ∷ words) (k + 2)
+fault-setting t words k f =
     let shorter : k + 2 - 1 ≡ suc (suc (k - 1)) = omega (arith, f.numbered) in
     let longer : k + 2 ≡ suc (suc k) = omega arith in
     let (settings, are) = f.before in
     let words_before = take (k - 1) words in
     record {
       numbered = omega arith;
-      before = rw shorter ([], simulation_of t settings, simulation-asked t one (words_before ++ []) settings (subst (λ ws. AreSettings ws settings) (sym (append-nil words_before)) are));
+      before = rw shorter ([], simulation_of t settings, simulation-asked t (words_before ++ []) settings (subst (λ ws. AreSettings ws settings) (sym (append-nil words_before)) are));
       fault = inl (
         omega (arith, f.within),
         rw longer (λ (more, p, h).

@@ -1,14 +1,15 @@
 -- What the top call read, and what it wrote.
-use Rattle.std.specs.Prelude.{◌≡◌, ℕ, ◌≤◌, ◌⊎◌, List, length, codes, Option, None, Some}
+use Rattle.std.specs.Prelude.{◌≡◌, ℕ, ◌≤◌, ◌⊎◌, Bool, List, length, codes, Option, None, Some}
 use Rattle.std.specs.Io.KnownBytes.{Consumes, IsAtEnd}
 use Rattle.dsm_isa.specs.ProgramText.{ProgramText}
 use Rattle.dsm_grammar.specs.declared.fault.AsmKind.{AsmKind}
 use Rattle.dsm_grammar.specs.Faults.{first_fault_of}
 use Rattle.dsm_grammar.specs.Grammar.{program_of}
 use Rattle.dsm_list.specs.Canonical.{canonical, shape_line}
+use Rattle.dsm_report.specs.Report.{report}
 use Rattle.dsm_words.specs.declared.topology.Topology.{Topology}
-use Rattle.dsm_machine.specs.declared.limits.Limits.{Limits}
-use Rattle.dsm_core.specs.Outcomes.{Ran}
+use Rattle.dsm_protocol.specs.declared.limits.Limits.{Limits}
+use Rattle.dsm_runs.specs.Outcomes.{Ran}
 use Rattle.dsm_sched.specs.declared.kind.Kind.{Kind}
 use Rattle.dsm_io.specs.Faults.{Rose}
 use Rattle.dsm_io.specs.Whole.{ConsumesSome}
@@ -19,7 +20,7 @@ use Rattle.dsm_top.specs.declared.reading.Unread.TheVariants.{Fault, TooLong, Re
 use Rattle.dsm_top.specs.Plans.{PlanOf}
 use Rattle.dsm_top.specs.Run.{Runs}
 use Rattle.dsm_top.specs.Streams.{Reading, Writing, WritesAll, WritesPrefix}
-use Rattle.dsm_top.specs.Report.{report, refused_line, kind_name}
+use Rattle.dsm_top.specs.Refusals.{refused_line, kind_name}
 
 -- the text was read to the end of the source, and is no longer than 65,536 bytes
 pub record ReadsText (r : Reading) (text : List ℕ) : Type 0 where
@@ -70,8 +71,8 @@ RefusesAndWrites r w = (line : List ℕ) × RefusesText r line × WritesLine w l
 abbrev pub Answers : Plan → ProgramText → Option Ran → List ℕ → Type 0
 Answers Check p ran bytes = (ran ≡ None) × (bytes ≡ shape_line p)
 Answers Listing p ran bytes = (ran ≡ None) × (bytes ≡ canonical p)
-Answers (Sim t limits kind steps) p (Some ran) bytes = Runs t limits kind steps p ran × (bytes ≡ report t p.shape ran)
-Answers (Sim t limits kind steps) p None bytes = ⊥
+Answers (Sim t limits kind steps trace) p (Some ran) bytes = Runs t limits kind steps p ran × (bytes ≡ report t p.shape ran trace)
+Answers (Sim t limits kind steps trace) p None bytes = ⊥
 
 -- the words ask for a plan, the text that was read stands for a program, and this is the answer
 pub record Accepts (words : List (List ℕ)) (r : Reading) (ran : Option Ran) (bytes : List ℕ) : Type 0 where
@@ -83,7 +84,7 @@ pub record Accepts (words : List (List ℕ)) (r : Reading) (ran : Option Ran) (b
 
 -- the words ask to run the program
 abbrev pub AskToRun : List (List ℕ) → Type 0
-AskToRun words = (t : Topology) × (limits : Limits) × (kind : Kind) × (steps : ℕ) × PlanOf words (Sim t limits kind steps)
+AskToRun words = (t : Topology) × (limits : Limits) × (kind : Kind) × (steps : ℕ) × (trace : Bool) × PlanOf words (Sim t limits kind steps trace)
 
 -- they do, the text that was read stands for a program, and this is what its run left
 pub record HasRun (words : List (List ℕ)) (r : Reading) (ran : Ran) : Type 0 where
@@ -91,7 +92,8 @@ pub record HasRun (words : List (List ℕ)) (r : Reading) (ran : Ran) : Type 0 w
   pub limits : Limits
   pub kind : Kind
   pub steps : ℕ
-  pub asked : PlanOf words (Sim t limits kind steps)
+  pub trace : Bool
+  pub asked : PlanOf words (Sim t limits kind steps trace)
   pub program : ProgramText
   pub read : ReadsProgram r program
   pub runs : Runs t limits kind steps program ran

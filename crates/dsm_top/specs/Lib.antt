@@ -1,6 +1,6 @@
 pub mod Answer
 pub mod CommandLine
 pub mod Plans
-pub mod Report
+pub mod Refusals
 pub mod Run
 pub mod Streams

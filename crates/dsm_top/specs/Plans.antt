@@ -1,25 +1,22 @@
 -- The words of the command line, and the plans that they stand for.
-use Rattle.std.specs.Prelude.{◌≡◌, ◌≢◌, ℕ, ◌+◌, ◌-◌, ◌≤◌, ◌⊎◌, List, [], ◌∷◌, ◌++◌, length, map, take, filter_map, slice_index_or, All, AllPairs, Option, Some, None, codes, decimal, String, string_bytes}
+use Rattle.std.specs.Prelude.{◌≡◌, ◌≢◌, ℕ, ◌+◌, ◌-◌, ◌≤◌, ◌⊎◌, List, [], ◌∷◌, ◌++◌, length, map, take, filter_map, slice_index_or, All, AllPairs, Option, Some, None, Bool, true, false, codes, decimal, String, string_bytes}
 use Rattle.std.specs.Option.{option_to_list}
 use Rattle.std.specs.declared.alloc.Global.{Global}
 use Rattle.dsm_words.specs.Counts.{IsFrom1To}
 use Rattle.dsm_words.specs.declared.topology.Topology.{Topology}
-use Rattle.dsm_machine.specs.declared.limits.Limits.{Limits}
+use Rattle.dsm_protocol.specs.declared.limits.Limits.{Limits}
+pub use Rattle.dsm_report.specs.Report.{topology_word}
 use Rattle.dsm_sched.specs.declared.kind.Kind.{Kind}
 use Rattle.dsm_sched.specs.declared.kind.Kind.TheVariants.{Round}
 use Rattle.dsm_top.specs.declared.planning.Given.{Given}
 use Rattle.dsm_top.specs.declared.plans.Plan.{Plan}
 use Rattle.dsm_top.specs.declared.plans.Plan.TheVariants.{Check, List as Listing, Sim}
 use Rattle.dsm_top.specs.declared.plans.Setting.{Setting}
-use Rattle.dsm_top.specs.declared.plans.Setting.TheVariants.{Kind as OfKind, Turns, Looks, Steps}
+use Rattle.dsm_top.specs.declared.plans.Setting.TheVariants.{Kind as OfKind, Turns, Looks, Steps, Trace}
 
 -- the bytes of each word
 abbrev pub texts : List (String Global) → List (List ℕ)
 texts words = map string_bytes words
-
--- a topology as a word
-abbrev pub topology_word : Topology → List ℕ
-topology_word t = decimal t.nodes ++ codes "x" ++ decimal t.procs
 
 -- the name of what a setting sets
 abbrev pub name_of : Setting → List ℕ
@@ -27,20 +24,23 @@ name_of (OfKind kind) = codes "kind"
 name_of (Turns n) = codes "turns"
 name_of (Looks n) = codes "looks"
 name_of (Steps n) = codes "steps"
+name_of Trace = codes "trace"
 
 -- the name of a kind
 abbrev pub kind_name : Kind → List ℕ
 kind_name Round = codes "round"
 
--- the value that a setting gives it
+-- the value that a setting gives it; `trace` has none
 abbrev pub value_of : Setting → List ℕ
 value_of (OfKind kind) = kind_name kind
 value_of (Turns n) = decimal n
 value_of (Looks n) = decimal n
 value_of (Steps n) = decimal n
+value_of Trace = []
 
 -- a setting as a word
 abbrev pub word_of : Setting → List ℕ
+word_of Trace = name_of Trace
 word_of setting = name_of setting ++ codes "=" ++ value_of setting
 
 -- the value is one that it may have: 1 to 1,000,000 instructions, to 1,000,000,000 looks, to 1,000,000,000,000 events
@@ -49,6 +49,7 @@ IsInRange (OfKind kind) = Unit {0}
 IsInRange (Turns n) = IsFrom1To 1000000 n
 IsInRange (Looks n) = IsFrom1To 1000000000 n
 IsInRange (Steps n) = IsFrom1To 1000000000000 n
+IsInRange Trace = Unit {0}
 
 -- the words are these settings, each in its range, and no two of the same name
 pub record AreSettings (words : List (List ℕ)) (settings : List Setting) : Type 0 where
@@ -73,7 +74,11 @@ abbrev pub steps_of : Setting → Option ℕ
 steps_of (Steps n) = Some n
 steps_of _ = None
 
--- what the settings give, or the default where none does: 200,000 instructions, 50,000,000 looks, 100,000,000 events
+abbrev pub trace_of : Setting → Option Bool
+trace_of Trace = Some true
+trace_of _ = None
+
+-- what the settings give, or the default where none does: 200,000 instructions, 50,000,000 looks, 100,000,000 events, no trace
 abbrev pub kind_in : List Setting → Kind
 kind_in settings = slice_index_or (filter_map kind_of settings) 0 Round
 
@@ -86,22 +91,25 @@ looks_in settings = slice_index_or (filter_map looks_of settings) 0 50000000
 abbrev pub steps_in : List Setting → ℕ
 steps_in settings = slice_index_or (filter_map steps_of settings) 0 100000000
 
--- the words are `sim`, a cluster of one node and settings, which give these limits
-pub record AskForSim (words : List (List ℕ)) (t : Topology) (limits : Limits) (kind : Kind) (steps : ℕ) : Type 0 where
+abbrev pub trace_in : List Setting → Bool
+trace_in settings = slice_index_or (filter_map trace_of settings) 0 false
+
+-- the words are `sim`, a cluster and settings, which give these limits
+pub record AskForSim (words : List (List ℕ)) (t : Topology) (limits : Limits) (kind : Kind) (steps : ℕ) (trace : Bool) : Type 0 where
   pub others : List (List ℕ)
   pub settings : List Setting
   pub spelt : words ≡ codes "sim" ∷ topology_word t ∷ others
-  pub one_node : t.nodes ≡ 1
   pub set : AreSettings others settings
   pub given_limits : limits ≡ record { turns = turns_in settings; looks = Some (looks_in settings) }
   pub given_kind : kind ≡ kind_in settings
   pub given_steps : steps ≡ steps_in settings
+  pub given_trace : trace ≡ trace_in settings
 
 -- these words ask for this plan
 abbrev pub PlanOf : List (List ℕ) → Plan → Type 0
 PlanOf words Check = words ≡ codes "check" ∷ []
 PlanOf words Listing = words ≡ codes "list" ∷ []
-PlanOf words (Sim t limits kind steps) = AskForSim words t limits kind steps
+PlanOf words (Sim t limits kind steps trace) = AskForSim words t limits kind steps trace
 
 -- words ask for one plan at most
 abbrev pub AskForOnePlan : Type 0
@@ -128,6 +136,7 @@ pub record IsGivenBy (given : Given) (settings : List Setting) : Type 0 where
   pub turns : filter_map turns_of settings ≡ option_to_list given.turns
   pub looks : filter_map looks_of settings ≡ option_to_list given.looks
   pub steps : filter_map steps_of settings ≡ option_to_list given.steps
+  pub trace : filter_map trace_of settings ≡ option_to_list given.trace
 
 -- the words are settings that give this
 abbrev pub Give : List (List ℕ) → Given → Type 0

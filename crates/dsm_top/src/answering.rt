@@ -1,17 +1,18 @@
 ghost use Rattle.std.specs.Prelude.{◌≡◌, IfOk};
-ghost use Rattle.dsm_core.specs.Setups.{IsSetup};
+ghost use Rattle.dsm_runs.specs.Setups.{IsSetup};
 ghost use Rattle.dsm_core.specs.States.{setup_of};
 ghost use Rattle.dsm_top.specs.Run.{IsRunnable};
 ghost use Rattle.dsm_top.specs.Answer.{Answers};
 
 use crate::plans::Plan;
-use crate::reporting::report;
-use dsm_core::laws::{one_node_law, run_law};
 use dsm_core::ran::Ran;
 use dsm_entry::entry::NoMemory;
 use dsm_isa::program::Program;
-use dsm_list::listing::{list, shape_text};
-use dsm_machine::limits::Limits;
+use dsm_list::listing::list;
+use dsm_protocol::limits::Limits;
+use dsm_report::reporting::text;
+use dsm_report::shape_text;
+use dsm_runs::laws::{one_node_law, run_law};
 use dsm_sched::kind::Kind;
 use dsm_sched::simulation::sim;
 use dsm_words::topology::Topology;
@@ -44,7 +45,8 @@ pub fn answer_to(alloc: Global, plan: Plan, program: &Program) -> Result<Answer,
             limits,
             kind,
             steps,
-        } => run_and_report(alloc, program, t, limits, kind, steps),
+            trace,
+        } => run_and_report(alloc, program, t, limits, kind, steps, trace),
     }
 }
 
@@ -56,15 +58,15 @@ fn run_and_report(
     limits: Limits,
     kind: Kind,
     steps: u64,
+    trace: bool,
 ) -> Result<Answer, NoMemory>
-    requires one_node { t.nodes ≡ 1 }
-    requires setup { IsSetup (setup_of program.now t limits) }
-    ensures { IfOk result (λ a. Answers (Plan.Sim t limits kind steps) program.now a.ran a.text.items) }
+    requires { IsSetup (setup_of program.now t limits) }
+    ensures { IfOk result (λ a. Answers (Plan.Sim t limits kind steps trace) program.now a.ran a.text.items) }
 {
     run_law();
     one_node_law();
     let ran = sim(alloc, program, t, limits, kind, steps)?.ran;
-    let text = report(alloc, t, program.shape(), &ran)?;
+    let text = text(alloc, t, program, &ran, trace)?;
     Ok(Answer {
         text,
         ran: Some(ran),

@@ -8,7 +8,6 @@ pub mod planning;
 pub mod plans;
 pub mod reading;
 pub mod refusal;
-pub mod reporting;
 #[cfg(test)]
 mod round_trip;
 pub mod top;

@@ -9,7 +9,7 @@ use crate::plans::{
 };
 use dsm_lex::laws::lex_law;
 use dsm_lex::spelling::number;
-use dsm_machine::limits::Limits;
+use dsm_protocol::limits::Limits;
 use dsm_sched::kind::Kind;
 use dsm_words::topology::Topology;
 
@@ -23,6 +23,7 @@ struct Given {
     turns: Option<u64>,
     looks: Option<u64>,
     steps: Option<u64>,
+    trace: Option<bool>,
 }
 
 /// The plan that the words ask for, or the number, from 1, of the first faulty word. It takes no memory.
@@ -66,19 +67,15 @@ fn simulation(rest: &[String]) -> Result<Plan, u64>
     }
 }
 
-/// The cluster of one node that a word asks for, as `1x4` does.
+/// The cluster that a word asks for, as `2x4` does.
 fn topology(word: &str) -> Option<Topology>
-    ensures some { IfSome result (λ t. (t.nodes ≡ 1) × (word.now ≡ topology_word t)) }
-    ensures none { IfNone result ((t : topology_of) → t.nodes ≡ 1 → word.now ≡ topology_word t → ⊥) }
+    ensures some { IfSome result (λ t. word.now ≡ topology_word t) }
+    ensures none { IfNone result ((t : topology_of) → word.now ≡ topology_word t → ⊥) }
 {
     let (nodes, procs) = word.split_once('x')?;
     let nodes = small_number(nodes.as_bytes())?;
     let procs = small_number(procs.as_bytes())?;
-    if nodes == 1 {
-        Topology::new(nodes, procs).ok()
-    } else {
-        None
-    }
+    Topology::new(nodes, procs).ok()
 }
 
 /// The number that a word spells.
@@ -100,6 +97,7 @@ fn settings(words: &[String]) -> Result<Given, u64>
         turns: None,
         looks: None,
         steps: None,
+        trace: None,
     };
     for (i, word) in words.iter().enumerate() {
         let Some(more) = given.with_word(word.as_str().as_bytes()) else {
@@ -132,6 +130,7 @@ impl Given {
             Setting::Turns(_) => self.turns.is_some(),
             Setting::Looks(_) => self.looks.is_some(),
             Setting::Steps(_) => self.steps.is_some(),
+            Setting::Trace => self.trace.is_some(),
         }
     }
 
@@ -156,12 +155,16 @@ impl Given {
                 steps: Some(n),
                 ..self
             },
+            Setting::Trace => Given {
+                trace: Some(true),
+                ..self
+            },
         }
     }
 
     /// The plan to simulate this cluster with what is given, and with the default of all else.
     fn simulation(self, t: Topology) -> Plan
-        ensures { (words : List (List ℕ)) → t.nodes ≡ 1 → Give words self → PlanOf (codes "sim" ∷ topology_word t ∷ words) result }
+        ensures { (words : List (List ℕ)) → Give words self → PlanOf (codes "sim" ∷ topology_word t ∷ words) result }
     {
         Plan::Sim {
             t,
@@ -171,6 +174,7 @@ impl Given {
             },
             kind: self.kind.unwrap_or(Kind::Round),
             steps: self.steps.unwrap_or(DEFAULT_STEPS),
+            trace: self.trace.unwrap_or(false),
         }
     }
 }
@@ -182,6 +186,9 @@ fn setting(word: &[u8]) -> Option<Setting>
 {
     if word == b"kind=round".as_slice() {
         return Some(Setting::Kind(Kind::Round));
+    }
+    if word == b"trace".as_slice() {
+        return Some(Setting::Trace);
     }
     if let Some(n) = number_behind(word, b"turns=", MOST_TURNS) {
         return Some(Setting::Turns(n));

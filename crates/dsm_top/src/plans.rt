@@ -1,4 +1,4 @@
-use dsm_machine::limits::Limits;
+use dsm_protocol::limits::Limits;
 use dsm_sched::kind::Kind;
 use dsm_words::topology::Topology;
 
@@ -34,6 +34,8 @@ pub enum Plan {
         kind: Kind,
         /// The most events of all processors.
         steps: u64,
+        /// Whether the report has each entry of each processor.
+        trace: bool,
     },
 }
 
@@ -48,4 +50,6 @@ pub enum Setting {
     Looks(u64),
     /// `steps=k`
     Steps(u64),
+    /// `trace`
+    Trace,
 }

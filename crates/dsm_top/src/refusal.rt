@@ -1,15 +1,18 @@
 ghost use Rattle.std.specs.Prelude.{◌≡◌, ◌<◌, ◌≤◌, ◌^◌, ◌++◌, length};
-ghost use Rattle.dsm_top.specs.Report.{refused_word, refused_line, kind_name as name_of_kind, limit_name as name_of_limit};
+ghost use Rattle.dsm_top.specs.Refusals.{refused_word, refused_line, kind_name as name_of_kind, limit_name as name_of_limit};
 
 use arrayvec::ArrayString;
 use dsm_grammar::fault::{AsmKind, Bound};
 use itoa::Buffer;
 
+#[cfg(test)]
+mod tests;
+
 /// Room for the one line of an answer that refuses.
 pub type Line = ArrayString<64>;
 
 /// The answer to words whose first faulty one has this number. It takes no memory.
-#[tactic(auto, unfolding(crate::specs::Report::refused_word))]
+#[tactic(auto, unfolding(crate::specs::Refusals::refused_word))]
 pub fn refuse_word(k: u64) -> Line
     ensures { result.bytes ≡ refused_word k }
 {
@@ -21,7 +24,7 @@ pub fn refuse_word(k: u64) -> Line
 }
 
 /// The answer to a text that is refused at line `n`, from 1, or 0 for the whole text. It takes no memory.
-#[tactic(auto, unfolding(crate::specs::Report::refused_line))]
+#[tactic(auto, unfolding(crate::specs::Refusals::refused_line))]
 pub fn refuse_line(n: u64, kind: &str) -> Line
     requires { length kind.now ≤ 20 }
     ensures { result.bytes ≡ refused_line n kind.now }

@@ -1,9 +1,9 @@
 ghost use Rattle.std.specs.Prelude.{◌≡◌, ◌≢◌, ℕ, ◌≤◌, ◌⊎◌, ◌↔◌, List, IsSome, IsSomeAnd, IfSome, None};
 ghost use Rattle.dsm_io.specs.Faults.{Rose};
-ghost use Rattle.dsm_core.specs.Outcomes.{AllHalted, SomeWants};
+ghost use Rattle.dsm_runs.specs.Outcomes.{AllHalted, SomeWants};
 ghost use Rattle.dsm_top.specs.declared.plans.Plan.{Plan as plan_of_words};
 ghost use Rattle.dsm_top.specs.Plans.{texts, PlanOf, FirstFault};
-ghost use Rattle.dsm_top.specs.Report.{refused_word, refused_line, kind_name as name_of_kind};
+ghost use Rattle.dsm_top.specs.Refusals.{refused_word, refused_line, kind_name as name_of_kind};
 ghost use Rattle.dsm_top.specs.Answer.{RefusesAndWrites, WritesLine, Accepts, AskToRun, HasRun};
 ghost use Rattle.dsm_top.specs.Streams.{reading, writing, WritesAll, WritesPrefix};
 

@@ -4,22 +4,38 @@ ghost use Rattle.dsm_isa.specs.declared.instr.Instr.{Instr};
 ghost use Rattle.dsm_isa.specs.Rules.{ObjectsInside};
 ghost use Rattle.dsm_words.specs.Place.{total};
 ghost use Rattle.dsm_words.specs.Words.{done, reply};
-ghost use Rattle.dsm_machine.specs.Jobs.{first_act, held_turn};
-ghost use Rattle.dsm_machine.specs.Processors.{ending, after_answer, wanting as wanting_if};
-ghost use Rattle.dsm_machine.specs.Machines.{who, seen, processor_in, spare_of, sizes_in, HasRoom};
+ghost use Rattle.dsm_protocol.specs.Jobs.{first_act, held_turn};
+ghost use Rattle.dsm_protocol.specs.Processors.{ending, after_answer, wanting as wanting_if};
+ghost use Rattle.dsm_protocol.specs.Own.{sizes_in};
+ghost use Rattle.dsm_machine.specs.Machines.{who, seen, processor_in, spare_of, HasRoom};
 
 use dsm_isa::code::Code;
 use dsm_machine::machine::Machine;
 use dsm_words::op::apply;
 
-/// Makes room for the entry of the machine's next event. Where there is no memory for it, the machine starves, which is
-/// answered by true.
-pub(crate) fn starves(machine: &mut Machine) -> bool
+/// The machine's next operation is found, and room is made for the entry of its next event. Where there is no memory for
+/// that, the machine starves, which is answered by true.
+pub(crate) fn starves(machine: &mut Machine, code: &Code) -> bool
+    requires objects { ObjectsInside (sizes_in (who machine.old).lay) code.now }
+    requires runs { ending (processor_in machine.old code.now) ≡ None }
+    ensures who { who machine.new ≡ who machine.old }
+    ensures wanting { processor_in machine.new code.now ≡ wanting_if (who machine.old) result (processor_in machine.old code.now) }
+    ensures full { IsTrue result → spare_of machine.old ≡ 0 }
+    ensures turn { IsTrue result → held_turn (processor_in machine.old code.now).todo ≡ None }
+    ensures runs { ending (seen machine.new) ≡ None }
+    ensures room { HasRoom machine.new }
+{
+    machine.begin(code);
+    wants(machine)
+}
+
+/// Makes room for the entry of the machine's next event; without memory for it, the machine starves.
+fn wants(machine: &mut Machine) -> bool
     requires { ending (seen machine.old) ≡ None }
     ensures who { who machine.new ≡ who machine.old }
     ensures wanting { (code : List Instr) → processor_in machine.new code ≡ wanting_if (who machine.old) result (processor_in machine.old code) }
     ensures full { IsTrue result → spare_of machine.old ≡ 0 }
-    ensures turn { IsTrue result → (code : List Instr) → held_turn (processor_in machine.old code).todo ≡ None }
+    ensures turn { IsTrue result → held_turn (seen machine.old).todo ≡ None }
     ensures runs { ending (seen machine.new) ≡ None }
     ensures room { HasRoom machine.new }
 {

@@ -9,16 +9,16 @@ use crate::ran::Ran;
 use dsm_entry::entry::NoMemory;
 use dsm_entry::trace::Trace;
 use dsm_local::end::End;
-use dsm_machine::counts::Counts;
 use dsm_machine::machine::Machine;
+use dsm_protocol::counts::Counts;
 use std::alloc::Global;
 
 impl State {
-    ghost use Rattle.dsm_machine.specs.Processors.{ending};
-    ghost use Rattle.dsm_core.specs.Clusters.{IsReached};
-    ghost use Rattle.dsm_core.specs.Outcomes.{ran_of, total_counts};
-    ghost use Rattle.dsm_core.specs.Promises.{Promises};
-    ghost use Rattle.dsm_core.specs.Setups.{IsSetup};
+    ghost use Rattle.dsm_protocol.specs.Processors.{ending};
+    ghost use Rattle.dsm_runs.specs.Clusters.{IsReached};
+    ghost use Rattle.dsm_runs.specs.Outcomes.{ran_of, total_counts};
+    ghost use Rattle.dsm_runs.specs.Promises.{Promises};
+    ghost use Rattle.dsm_runs.specs.Setups.{IsSetup};
     ghost use Rattle.dsm_core.specs.States.{setup_in, cluster_in, IsFor};
 
     /// What the state leaves. The traces are moved and not copied.

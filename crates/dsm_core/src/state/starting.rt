@@ -4,23 +4,24 @@ ghost use Rattle.std.specs.List.{range_with_len};
 ghost use Rattle.dsm_isa.specs.declared.instr.Instr.{Instr};
 ghost use Rattle.dsm_words.specs.Place.{lay_of, processors, total};
 ghost use Rattle.dsm_machine.specs.declared.machine.Machine.{Machine as machine};
-ghost use Rattle.dsm_machine.specs.Machines.{who, processor_in, sizes_in};
-ghost use Rattle.dsm_machine.specs.Processors.{new_processor};
-ghost use Rattle.dsm_core.specs.Setups.{first_words as first_words_of, frames_of};
+ghost use Rattle.dsm_protocol.specs.Own.{sizes_in};
+ghost use Rattle.dsm_machine.specs.Machines.{who, processor_in};
+ghost use Rattle.dsm_protocol.specs.Processors.{new_processor};
+ghost use Rattle.dsm_runs.specs.Setups.{first_words as first_words_of, frames_of};
 ghost use Rattle.dsm_core.specs.States.{setup_of};
 
 use super::State;
 use dsm_entry::entry::NoMemory;
 use dsm_isa::program::Program;
-use dsm_machine::limits::Limits;
 use dsm_machine::machine::Machine;
+use dsm_protocol::limits::Limits;
 use dsm_words::item::Item;
 use dsm_words::layout::Layout;
 use dsm_words::topology::Topology;
 use std::alloc::Global;
 
 impl State {
-    ghost use Rattle.dsm_core.specs.Clusters.{start, IsReached};
+    ghost use Rattle.dsm_runs.specs.Clusters.{start, IsReached};
     ghost use Rattle.dsm_core.specs.States.{setup_in, cluster_in, IsFor};
 
     /// The state of the program before any event.

@@ -9,8 +9,8 @@ use dsm_isa::program::Program;
 use dsm_isa::reg::Reg;
 use dsm_isa::shape::Shape;
 use dsm_local::end::End;
-use dsm_machine::counts::Counts;
-use dsm_machine::limits::Limits;
+use dsm_protocol::counts::Counts;
+use dsm_protocol::limits::Limits;
 use dsm_words::topology::Topology;
 use std::alloc::Global;
 use std::process::Abort;
@@ -71,8 +71,9 @@ fn adds(c: u64, v: u64, a: u64) -> [Entry; 6] {
     ]
 }
 
-// Two processors in turn add 1 to a word under a lock. Processor 1 loses its first exchange, finds the lock held, and
-// then takes it; processor 0 looks three times at the closing barrier before processor 1 arrives.
+// Two processors add 1 to a word under a lock. Processor 1 loses its first exchange, and finds the lock held; processor 0
+// goes on alone and looks three times at the closing barrier before processor 1 arrives. Each faults on a load and on a
+// store; the page is exclusive until the closing work breaks it.
 #[test]
 fn locks_in_turn(rt: HostRuntime) -> Result<(), Fail> {
     let (d, a) = (
@@ -89,14 +90,14 @@ fn locks_in_turn(rt: HostRuntime) -> Result<(), Fail> {
     ];
     let program = program(rt.alloc(), 1, &[], &list)?;
     let mut state = State::start(rt.alloc(), &program, Topology::new(1, 2)?, LIMITS)?;
-    let round = [
-        0, 1, 0, 1, 0, 1, 0, 1, 0, 1, 0, 1, 0, 1, 0, 1, 0, 1, 0, 1, 0, 1, 0, 1, 0, 1,
-    ];
-    steps(&rt, &mut state, &program, &round);
+    steps(&rt, &mut state, &program, &[0, 1, 0, 1, 0, 1, 0, 1]);
+    steps(&rt, &mut state, &program, &[0; 35]);
+    steps(&rt, &mut state, &program, &[1; 25]);
     assert_eq!(rt; state.all(), 2);
     assert_eq!(rt; (state.end(0), state.end(1)), (None, Some(End::Halted)));
-    assert!(rt; !state.ended());
     assert_eq!(rt; state.step(&program, 1), Step::Ended);
+    steps(&rt, &mut state, &program, &[0; 11]);
+    assert!(rt; !state.ended());
     assert_eq!(rt; state.step(&program, 0), Step::Did);
     assert!(rt; state.ended());
     assert_eq!(rt; state.step(&program, 0), Step::Ended);
@@ -112,6 +113,10 @@ fn locks_in_turn(rt: HostRuntime) -> Result<(), Fail> {
     assert!(rt; ran.is_halted());
     assert!(rt; !ran.wants_memory());
     let mut counts = Counts::none();
+    counts.read_faults = 2;
+    counts.write_faults = 2;
+    counts.enters = 1;
+    counts.breaks = 1;
     counts.unready = 5;
     assert_eq!(rt; ran.counts, counts);
     Ok(())

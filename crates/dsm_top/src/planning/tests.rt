@@ -7,22 +7,32 @@ use std::test::Fail;
 enum Wanted {
     Check,
     List,
-    /// `sim` on one node of so many processors, with these turns, looks and steps.
-    Sim(u32, u64, u64, u64),
+    /// `sim` on so many nodes of so many processors each, with these turns, looks and steps.
+    Sim(u32, u32, u64, u64, u64),
+    /// `sim` on so many nodes of so many processors each, with its trace and all else by default.
+    Traced(u32, u32),
     /// The number of the first faulty word.
     Fault(u64),
 }
 
-use Wanted::{Check, Fault, List, Sim};
+use Wanted::{Check, Fault, List, Sim, Traced};
 
 const ROWS: &[(&[&str], Wanted)] = &[
     (&["check"], Check),
     (&["list"], List),
-    (&["sim", "1x1"], Sim(1, 200_000, 50_000_000, 100_000_000)),
-    (&["sim", "1x8"], Sim(8, 200_000, 50_000_000, 100_000_000)),
+    (&["sim", "1x1"], Sim(1, 1, 200_000, 50_000_000, 100_000_000)),
+    (&["sim", "1x8"], Sim(1, 8, 200_000, 50_000_000, 100_000_000)),
+    (&["sim", "8x1"], Sim(8, 1, 200_000, 50_000_000, 100_000_000)),
+    (&["sim", "8x4"], Sim(8, 4, 200_000, 50_000_000, 100_000_000)),
+    (&["sim", "4x8"], Sim(4, 8, 200_000, 50_000_000, 100_000_000)),
+    (&["sim", "5x6"], Sim(5, 6, 200_000, 50_000_000, 100_000_000)),
     (
         &["sim", "1x4", "kind=round", "turns=5", "looks=6", "steps=7"],
-        Sim(4, 5, 6, 7),
+        Sim(1, 4, 5, 6, 7),
+    ),
+    (
+        &["sim", "2x3", "steps=7", "turns=5"],
+        Sim(2, 3, 5, 50_000_000, 7),
     ),
     (
         &[
@@ -33,9 +43,12 @@ const ROWS: &[(&[&str], Wanted)] = &[
             "turns=1000000",
             "kind=round",
         ],
-        Sim(2, 1_000_000, 1_000_000_000, 1_000_000_000_000),
+        Sim(1, 2, 1_000_000, 1_000_000_000, 1_000_000_000_000),
     ),
-    (&["sim", "1x3", "looks=1"], Sim(3, 200_000, 1, 100_000_000)),
+    (
+        &["sim", "1x3", "looks=1"],
+        Sim(1, 3, 200_000, 1, 100_000_000),
+    ),
     (&[], Fault(1)),
     (&["trace"], Fault(1)),
     (&["sim 1x1"], Fault(1)),
@@ -43,19 +56,35 @@ const ROWS: &[(&[&str], Wanted)] = &[
     (&["list", "list"], Fault(2)),
     (&["sim"], Fault(2)),
     (&["sim", "9x1"], Fault(2)),
-    (&["sim", "2x1"], Fault(2)),
     (&["sim", "0x1"], Fault(2)),
+    (&["sim", "0x9"], Fault(2)),
+    (&["sim", "9x0"], Fault(2)),
+    (&["sim", "8x5"], Fault(2)),
+    (&["sim", "5x7"], Fault(2)),
+    (&["sim", "6x6"], Fault(2)),
+    (&["sim", "8x8"], Fault(2)),
+    (&["sim", "3x11"], Fault(2)),
+    (&["sim", "33x1"], Fault(2)),
     (&["sim", "1x9"], Fault(2)),
     (&["sim", "1x0"], Fault(2)),
     (&["sim", "01x1"], Fault(2)),
     (&["sim", "1x01"], Fault(2)),
     (&["sim", "1x"], Fault(2)),
     (&["sim", "x1"], Fault(2)),
+    (&["sim", "x"], Fault(2)),
     (&["sim", "11"], Fault(2)),
     (&["sim", "1x1x1"], Fault(2)),
+    (&["sim", "2xx2"], Fault(2)),
     (&["sim", "1X1"], Fault(2)),
     (&["sim", "+1x1"], Fault(2)),
+    (&["sim", "2x-2"], Fault(2)),
+    (&["sim", "2x 2"], Fault(2)),
+    (&["sim", "02x2"], Fault(2)),
+    (&["sim", "2x02"], Fault(2)),
     (&["sim", "1x4294967297"], Fault(2)),
+    (&["sim", "4294967297x1"], Fault(2)),
+    (&["sim", "18446744073709551617x1"], Fault(2)),
+    (&["sim", "2", "x", "2"], Fault(2)),
     (&["sim", "turns=5", "1x1"], Fault(2)),
     (&["sim", "1x1", "turns=5", "turns=5"], Fault(4)),
     (
@@ -68,6 +97,8 @@ const ROWS: &[(&[&str], Wanted)] = &[
         Fault(5),
     ),
     (&["sim", "1x1", "turns=0"], Fault(3)),
+    (&["sim", "8x4", "turns=0"], Fault(3)),
+    (&["sim", "2x2", "2x2"], Fault(3)),
     (&["sim", "1x1", "turns=1000001"], Fault(3)),
     (&["sim", "1x1", "turns=05"], Fault(3)),
     (&["sim", "1x1", "turns="], Fault(3)),
@@ -77,27 +108,57 @@ const ROWS: &[(&[&str], Wanted)] = &[
     (&["sim", "1x1", "looks=1000000001"], Fault(3)),
     (&["sim", "1x1", "steps=0"], Fault(3)),
     (&["sim", "1x1", "steps=1000000000001"], Fault(3)),
-    (&["sim", "1x1", "trace"], Fault(3)),
+    (&["sim", "1x1", "trace"], Traced(1, 1)),
+    (&["sim", "2x2", "trace", "turns=200000"], Traced(2, 2)),
+    (&["sim", "1x1", "trace", "trace"], Fault(4)),
+    (&["sim", "1x1", "trace="], Fault(3)),
+    (&["sim", "1x1", "trace=1"], Fault(3)),
     (&["sim", "1x1", "seed=1"], Fault(3)),
     (&["sim", "1x1", "kind=mixed"], Fault(3)),
     (&["sim", "1x1", "1x1"], Fault(3)),
     (&["sim", "1x1", ""], Fault(3)),
 ];
 
+/// The plan of `sim` on so many nodes of so many processors each.
+fn simulation(
+    nodes: u32,
+    procs: u32,
+    limits: Limits,
+    steps: u64,
+    trace: bool,
+) -> Result<Plan, Fail> {
+    Ok(Plan::Sim {
+        t: Topology::new(nodes, procs).ok().ok_or("no such cluster")?,
+        limits,
+        kind: Kind::Round,
+        steps,
+        trace,
+    })
+}
+
 /// The answer that a row wants.
 fn answer(wanted: Wanted) -> Result<Result<Plan, u64>, Fail> {
+    let limits = |turns, looks| Limits {
+        turns,
+        looks: Some(looks),
+    };
     Ok(match wanted {
         Check => Ok(Plan::Check),
         List => Ok(Plan::List),
-        Sim(procs, turns, looks, steps) => Ok(Plan::Sim {
-            t: Topology::new(1, procs).ok().ok_or("no such cluster")?,
-            limits: Limits {
-                turns,
-                looks: Some(looks),
-            },
-            kind: Kind::Round,
+        Sim(nodes, procs, turns, looks, steps) => Ok(simulation(
+            nodes,
+            procs,
+            limits(turns, looks),
             steps,
-        }),
+            false,
+        )?),
+        Traced(nodes, procs) => Ok(simulation(
+            nodes,
+            procs,
+            limits(200_000, 50_000_000),
+            100_000_000,
+            true,
+        )?),
         Fault(k) => Err(k),
     })
 }

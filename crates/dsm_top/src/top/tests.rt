@@ -9,10 +9,16 @@ use dsm_flat::verdict::Verdict;
 use dsm_io::{MemSink, MemSource};
 use std::test::Fail;
 
+mod clusters;
+
 /// A program that stores 7 to word 2, loads it again and prints it.
 const FIRST: &[u8] = b".words 4\nli r1 7\nli r2 2\nst r1 r2 0\nld r3 r2 0\nout r3\nhalt\n";
 
+/// Its report before the counts, and the counts.
 const FIRST_REPORT: &str = "cashmere 1x1\nend 0 halted\nout 0 7\npage 0 0 0 7 0\n";
+
+const FIRST_COUNTS: &str =
+    "count read_faults 0\ncount write_faults 1\ncount overwrites 0\ncount merges 0\ncount twins 0\ncount flushes 0\ncount early 0\ncount notices 0\ncount unmaps 0\ncount enters 1\ncount breaks 1\ncount unready 0\n";
 
 const CHECK: &[&str] = &["check"];
 
@@ -20,7 +26,7 @@ const LIST: &[&str] = &["list"];
 
 const SIM: &[&str] = &["sim", "1x1"];
 
-/// Words, text, status, answer.
+/// Words, text, status, answer; of a report all that stands before its counts.
 type Row = (&'static [&'static str], &'static [u8], u8, &'static str);
 
 /// The commands.
@@ -81,7 +87,12 @@ const COMMANDS: &[Row] = &[
 const WORDS: &[Row] = &[
     (&["sim", "9x1"], FIRST, 2, "refused word 2\n"),
     (&["sim", "8x8"], FIRST, 2, "refused word 2\n"),
-    (&["sim", "2x1"], FIRST, 2, "refused word 2\n"),
+    (&["sim", "8x5"], FIRST, 2, "refused word 2\n"),
+    (&["sim", "0x1"], FIRST, 2, "refused word 2\n"),
+    (&["sim", "2x2x1"], FIRST, 2, "refused word 2\n"),
+    (&["sim", "2X2"], FIRST, 2, "refused word 2\n"),
+    (&["sim", "02x2"], FIRST, 2, "refused word 2\n"),
+    (&["sim", "2x2", "turns=0"], FIRST, 2, "refused word 3\n"),
     (&["sim", "1x9"], FIRST, 2, "refused word 2\n"),
     (&["sim", "1x0"], FIRST, 2, "refused word 2\n"),
     (&["sim", "turns=5", "1x1"], FIRST, 2, "refused word 2\n"),
@@ -117,7 +128,7 @@ const WORDS: &[Row] = &[
         "refused word 4\n",
     ),
     (
-        &["sim", "1x1", "kind=round", "trace"],
+        &["sim", "1x1", "trace", "trace"],
         FIRST,
         2,
         "refused word 4\n",
@@ -145,6 +156,10 @@ const NEIGHBOURS: &[u8] =
 const RACERS: &[u8] =
     b".words 8\n.barriers 1\nme r1\nli r6 4\naddi r2 r1 100\nblt r1 r6 own\nst r2 r6 0\njmp meet\nown: st r2 r1 0\nmeet: bar 0\nbge r1 r6 race\naddi r4 r1 1\nrem r4 r4 r6\nld r5 r4 0\nout r5\nhalt\nrace: ld r5 r6 0\nout r5\nhalt\n";
 
+/// Processor 1 prints word 0, which starts with 5.
+const REMOTE: &[u8] =
+    b".words 2\n.init 0 5\nme r1\nli r2 0\nbeq r1 r2 end\nld r3 r2 0\nout r3\nend: halt\n";
+
 const LOOP: &[u8] = b".words 1\nl: jmp l\n";
 
 const NINE: &[u8] =
@@ -161,19 +176,6 @@ const RUNS: &[Row] = &[
         LONG,
         0,
         "cashmere 1x2\nend 0 halted\nend 1 halted\npage 0 1 1 0 0\n",
-    ),
-    (
-        &["sim", "1x1", "steps=6"],
-        FIRST,
-        1,
-        "cashmere 1x1\nend 0 cut\nout 0 7\npage 0 0 0 7 0\n",
-    ),
-    (&["sim", "1x1", "steps=7"], FIRST, 0, FIRST_REPORT),
-    (
-        &["sim", "1x1", "steps=3"],
-        FIRST,
-        1,
-        "cashmere 1x1\nend 0 cut\npage 0 0 0 7 0\n",
     ),
     (
         &["sim", "1x4"],
@@ -211,12 +213,6 @@ const RUNS: &[Row] = &[
         RACERS,
         0,
         "cashmere 1x8\nend 0 halted\nend 1 halted\nend 2 halted\nend 3 halted\nend 4 halted\nend 5 halted\nend 6 halted\nend 7 halted\nout 0 101\nout 1 102\nout 2 103\nout 3 100\nout 4 107\nout 5 107\nout 6 107\nout 7 107\npage 0 100 101 102 103 107 0 0 0\n",
-    ),
-    (
-        &["sim", "1x2", "looks=5"],
-        NEVER,
-        1,
-        "cashmere 1x2\nend 0 looked\nend 1 looked\npage 0 0 0\n",
     ),
     (
         &["sim", "1x2", "kind=round"],
@@ -442,7 +438,17 @@ fn answer(
     Ok((done.status, written))
 }
 
-/// Whether the answer to these words and this text is that, with that status.
+/// What stands before the counts of a report, and all of another answer.
+fn uncounted(written: &[u8]) -> &[u8] {
+    for i in 0..written.len() {
+        if written[i..].starts_with(b"count ") {
+            return &written[..i];
+        }
+    }
+    written
+}
+
+/// Whether the answer to these words and this text is that, with that status, but for the counts of a report.
 fn answers(
     alloc: Global,
     words: &[&str],
@@ -451,7 +457,7 @@ fn answers(
     wanted: &str,
 ) -> Result<bool, Fail> {
     let (got, written) = answer(alloc, words, text, (4096, &[]), (4096, &[]))?;
-    Ok(got == status && written.as_slice() == wanted.as_bytes())
+    Ok(got == status && uncounted(&written) == wanted.as_bytes())
 }
 
 #[test]
@@ -467,6 +473,97 @@ fn answers_as_told(rt: HostRuntime) -> Result<(), Fail> {
     Ok(())
 }
 
+/// Words, text, status, the report before the counts, the counts that are not 0.
+type Counted = (
+    &'static [&'static str],
+    &'static [u8],
+    u8,
+    &'static str,
+    &'static [(&'static str, u64)],
+);
+
+/// Runs with all that they count.
+const COUNTED: &[Counted] = &[
+    (
+        SIM,
+        FIRST,
+        0,
+        FIRST_REPORT,
+        &[("write_faults", 1), ("enters", 1), ("breaks", 1)],
+    ),
+    (
+        &["sim", "1x2", "looks=5"],
+        NEVER,
+        1,
+        "cashmere 1x2\nend 0 looked\nend 1 stopped by 0\npage 0 0 0\n",
+        &[("unready", 9)],
+    ),
+    (
+        &["sim", "2x1"],
+        REMOTE,
+        0,
+        "cashmere 2x1\nend 0 halted\nend 1 halted\nout 1 5\npage 0 5 0\n",
+        &[("read_faults", 1), ("unready", 6)],
+    ),
+];
+
+/// The names of all counts, in the order of their lines.
+const COUNTS: [&str; 12] = [
+    "read_faults",
+    "write_faults",
+    "overwrites",
+    "merges",
+    "twins",
+    "flushes",
+    "early",
+    "notices",
+    "unmaps",
+    "enters",
+    "breaks",
+    "unready",
+];
+
+/// The lines of all counts, each 0 that is not among these.
+fn count_lines(alloc: Global, counts: &[(&str, u64)]) -> Result<Vec<u8>, Fail> {
+    let mut text = Vec::new(alloc);
+    for name in COUNTS {
+        let n = counts
+            .iter()
+            .find(|count| count.0 == name)
+            .map_or(0, |count| count.1);
+        text.extend_from_slice(format!(in alloc; "count {name} {n}\n")?.as_bytes())?;
+    }
+    Ok(text)
+}
+
+// Each with its twelve counts: a run with a page alone, a wait that nobody serves, and a page of another node's.
+#[test]
+fn counts_what_happened(rt: HostRuntime) -> Result<(), Fail> {
+    for (i, (words, text, status, report, counts)) in COUNTED.iter().enumerate() {
+        let (got, written) = answer(rt.alloc(), words, text, (4096, &[]), (4096, &[]))?;
+        assert_eq!(rt; got, *status, "row {i}");
+        let wanted = count_lines(rt.alloc(), counts)?;
+        assert!(rt;
+            written.as_slice().strip_prefix(report.as_bytes()) == Some(wanted.as_slice()),
+            "row {i}"
+        );
+    }
+    Ok(())
+}
+
+// With `trace` what the processor did stands behind the counts.
+#[test]
+fn traces_a_run(rt: HostRuntime) -> Result<(), Fail> {
+    let words = &["sim", "1x1", "trace"];
+    let (status, written) = answer(rt.alloc(), words, FIRST, (4096, &[]), (4096, &[]))?;
+    assert_eq!(rt; status, 0);
+    let wanted = format!(in rt.alloc();
+        "{FIRST_REPORT}{FIRST_COUNTS}t 0 store 2 7\nt 0 load 2 7\nt 0 out 7\nt 0 signal close 0\nt 0 pass close 1\n"
+    )?;
+    assert_eq!(rt; written.as_slice(), wanted.as_bytes());
+    Ok(())
+}
+
 // A read that fails, a write that fails, and a finish that fails.
 #[test]
 fn faults(rt: HostRuntime) -> Result<(), Fail> {
@@ -478,7 +575,9 @@ fn faults(rt: HostRuntime) -> Result<(), Fail> {
     assert_eq!(rt; written.as_slice(), b"cashm".as_slice());
     let (status, written) = answer(rt.alloc(), SIM, FIRST, (10, &[]), (4096, &[2]))?;
     assert_eq!(rt; status, 5);
-    assert_eq!(rt; written.as_slice(), FIRST_REPORT.as_bytes());
+    assert!(rt;
+        written.as_slice().strip_prefix(FIRST_REPORT.as_bytes()) == Some(FIRST_COUNTS.as_bytes())
+    );
     Ok(())
 }
 
@@ -578,7 +677,7 @@ fn largest_node(rt: HostRuntime) -> Result<(), Fail> {
         b".pages 256\n.words 256\n.locks 64\n.barriers 16\n.flags 64\nme r1\nmuli r2 r1 8192\naddi r3 r1 1\nst r3 r2 8191\nbar 15\nlock 63\nunlock 63\nset 63\nwait 63 8\nhalt\n";
     let (status, written) = answer(rt.alloc(), &["sim", "1x8"], text, (4096, &[]), (4096, &[]))?;
     assert_eq!(rt; status, 0);
-    assert!(rt; written.as_slice() == largest_report(rt.alloc())?.as_slice());
+    assert!(rt; uncounted(&written) == largest_report(rt.alloc())?.as_slice());
     Ok(())
 }
 

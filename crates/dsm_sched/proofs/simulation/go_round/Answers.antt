@@ -1,7 +1,7 @@
 use Rattle.std.proofs.Common.{◌≡◌, ◌*◌, Some, None, refl, sym, ap, ◌∙◌, subst, arith}
 use Rattle.dsm_words.specs.Place.{lay_of, processors}
-use Rattle.dsm_core.specs.Setups.{Setup}
-use Rattle.dsm_core.specs.Clusters.{Cluster}
+use Rattle.dsm_runs.specs.Setups.{Setup}
+use Rattle.dsm_runs.specs.Clusters.{Cluster}
 use Rattle.dsm_core.specs.States.{setup_in, cluster_in, Stepped}
 use Rattle.dsm_sched.specs.Schedules.{cyclic, first_running as first_of}
 use Rattle.dsm_sched.proofs.Going.{going_at_start, stepped_on, whole_made, whole_ended}

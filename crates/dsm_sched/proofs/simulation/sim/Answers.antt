@@ -1,6 +1,6 @@
 use Rattle.std.proofs.Common.{◌≡◌, ap, ◌∙◌, subst}
-use Rattle.dsm_core.specs.Setups.{Setup}
-use Rattle.dsm_core.specs.Outcomes.{ran_of}
+use Rattle.dsm_runs.specs.Setups.{Setup}
+use Rattle.dsm_runs.specs.Outcomes.{ran_of}
 use Rattle.dsm_core.specs.States.{setup_of, setup_in, cluster_in}
 use Rattle.dsm_sched.specs.declared.kind.Kind.{Kind}
 use Rattle.dsm_sched.specs.declared.kind.Kind.TheVariants.{Round}

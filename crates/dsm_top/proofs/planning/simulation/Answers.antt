@@ -14,11 +14,11 @@ returns-in_default-topology-clause-fault c =
 pub returns-in-Ok-clause-plan : goal.returns-in-Ok-clause-plan
 returns-in-Ok-clause-plan c =
     let made = c.in-Some-topology.ensures.some in
-    let cut = texts-cons c.args.rest.now c.in-Some.word.now c.in-Some.rest.now (topology_word c.in-Some-topology.t) c.in-Some.ensures.cases.0 (sym made.1 ∙ c.as_str.ensures.value) in
-    rw cut (c.simulation.ensures (texts c.in-Some.rest.now) made.0 c.in-Ok.ensures.given)
+    let cut = texts-cons c.args.rest.now c.in-Some.word.now c.in-Some.rest.now (topology_word c.in-Some-topology.t) c.in-Some.ensures.cases.0 (sym made ∙ c.as_str.ensures.value) in
+    rw cut (c.simulation.ensures (texts c.in-Some.rest.now) c.in-Ok.ensures.given)
 
 pub returns-in-Err-clause-fault : goal.returns-in-Err-clause-fault
 returns-in-Err-clause-fault c =
     let made = c.in-Some-topology.ensures.some in
-    let cut = texts-cons c.args.rest.now c.in-Some.word.now c.in-Some.rest.now (topology_word c.in-Some-topology.t) c.in-Some.ensures.cases.0 (sym made.1 ∙ c.as_str.ensures.value) in
-    rw cut (fault-setting c.in-Some-topology.t made.0 (texts c.in-Some.rest.now) c.in-Err.k c.in-Err.ensures.fault)
+    let cut = texts-cons c.args.rest.now c.in-Some.word.now c.in-Some.rest.now (topology_word c.in-Some-topology.t) c.in-Some.ensures.cases.0 (sym made ∙ c.as_str.ensures.value) in
+    rw cut (fault-setting c.in-Some-topology.t (texts c.in-Some.rest.now) c.in-Err.k c.in-Err.ensures.fault)

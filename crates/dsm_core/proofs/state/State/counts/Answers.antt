@@ -1,10 +1,10 @@
 use Rattle.std.proofs.Common.{◌≡◌, [], ◌∷◌, ◌++◌, map, take, get_or, ap, sym, ◌∙◌, arith}
 use Rattle.std.proofs.lemmas.List.{take_all, take_more, map_push}
 use Rattle.dsm_machine.specs.declared.machine.Machine.{Machine}
-use Rattle.dsm_machine.specs.Own.{added}
+use Rattle.dsm_protocol.specs.Own.{added}
 use Rattle.dsm_machine.specs.Machines.{processor_in}
-use Rattle.dsm_machine.specs.Processors.{Processor}
-use Rattle.dsm_core.specs.Outcomes.{total_counts}
+use Rattle.dsm_protocol.specs.Processors.{Processor}
+use Rattle.dsm_runs.specs.Outcomes.{total_counts}
 use Rattle.dsm_core.proofs.Leaving.{counts_more}
 use Rattle.dsm_core.proofs.state.State.counts.Goals as goal
 

@@ -2,7 +2,7 @@ use Rattle.std.proofs.Common.{Some, map, ap, sym, ◌∙◌, arith}
 use Rattle.std.specs.Prelude.{option_map}
 use Rattle.std.proofs.lemmas.Option.{slice_get-map}
 use Rattle.dsm_machine.specs.declared.machine.Machine.{Machine}
-use Rattle.dsm_machine.specs.Processors.{Processor, ending}
+use Rattle.dsm_protocol.specs.Processors.{Processor, ending}
 use Rattle.dsm_machine.specs.Machines.{processor_in}
 use Rattle.dsm_core.proofs.Stepping.{at_processor}
 use Rattle.dsm_core.proofs.state.State.end.Goals as goal

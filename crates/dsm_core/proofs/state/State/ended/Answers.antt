@@ -3,7 +3,7 @@ use Rattle.std.specs.Prelude.{is_some}
 use Rattle.std.proofs.lemmas.Iterator.{YieldsList-from_slice}
 use Rattle.std.proofs.lemmas.Iterator.Search.{all_from_yields_List}
 use Rattle.dsm_machine.specs.Machines.{processor_in}
-use Rattle.dsm_machine.specs.Processors.{ending}
+use Rattle.dsm_protocol.specs.Processors.{ending}
 use Rattle.dsm_core.proofs.Leaving.{all_ended}
 use Rattle.dsm_core.proofs.state.State.ended.Goals as goal
 

@@ -1,7 +1,7 @@
 use Rattle.std.proofs.Common.{map, ap, ◌∙◌, arith}
 use Rattle.std.proofs.lemmas.List.{take_all}
 use Rattle.dsm_machine.specs.Machines.{processor_in}
-use Rattle.dsm_machine.specs.Processors.{ending}
+use Rattle.dsm_protocol.specs.Processors.{ending}
 use Rattle.dsm_core.proofs.state.State.ends.Goals as goal
 
 pub returns : goal.returns

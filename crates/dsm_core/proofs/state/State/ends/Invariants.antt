@@ -1,7 +1,7 @@
 use Rattle.std.proofs.Common.{◌≡◌, List, map, take}
 use Rattle.dsm_isa.specs.declared.instr.Instr.{Instr}
 use Rattle.dsm_machine.specs.Machines.{processor_in}
-use Rattle.dsm_machine.specs.Processors.{ending}
+use Rattle.dsm_protocol.specs.Processors.{ending}
 use Rattle.dsm_core.proofs.state.State.ends.Given as goal
 
 abbrev pub invariant-loop-machine : goal.invariant-loop-machine

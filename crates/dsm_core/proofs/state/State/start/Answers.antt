@@ -2,9 +2,9 @@ use Rattle.std.proofs.Common.{◌≡◌, map, sym, ap, ◌∙◌, subst}
 use Rattle.std.specs.List.{range_with_len}
 use Rattle.dsm_words.specs.declared.topology.Topology.{Topology}
 use Rattle.dsm_words.specs.Place.{Lay, lay_of, processors}
-use Rattle.dsm_machine.specs.Processors.{new_processor}
-use Rattle.dsm_core.specs.Setups.{lay_in, first_words}
-use Rattle.dsm_core.specs.Clusters.{start, IsReached}
+use Rattle.dsm_protocol.specs.Processors.{new_processor}
+use Rattle.dsm_runs.specs.Setups.{lay_in, first_words}
+use Rattle.dsm_runs.specs.Clusters.{start, IsReached}
 use Rattle.dsm_core.specs.States.{setup_of}
 use Rattle.dsm_core.proofs.Handing.{reached_start}
 use Rattle.dsm_core.proofs.state.State.start.Goals as goal

@@ -1,14 +1,15 @@
 use Rattle.std.proofs.Common.{◌≡◌, None, IsSome, map, length, sym, ap, ◌∙◌, subst, arith}
-use Rattle.std.specs.Prelude.{slice_set}
+use Rattle.std.specs.Prelude.{IsTrue, slice_set}
 use Rattle.std.proofs.lemmas.List.{with_items_is, length-set}
 use Rattle.dsm_isa.specs.Rules.{ObjectsInside}
 use Rattle.dsm_words.specs.Place.{lay_of, total}
 use Rattle.dsm_words.specs.Script.{Act}
 use Rattle.dsm_words.specs.Words.{done, reply}
 use Rattle.dsm_machine.specs.declared.machine.Machine.{Machine}
-use Rattle.dsm_machine.specs.Jobs.{first_act}
-use Rattle.dsm_machine.specs.Processors.{Processor, ending, after_answer}
-use Rattle.dsm_machine.specs.Machines.{who, processor_in, sizes_in}
+use Rattle.dsm_protocol.specs.Jobs.{first_act, held_turn}
+use Rattle.dsm_protocol.specs.Processors.{Processor, ending, wanting, after_answer}
+use Rattle.dsm_protocol.specs.Own.{sizes_in}
+use Rattle.dsm_machine.specs.Machines.{who, processor_in}
 use Rattle.dsm_core.specs.States.{setup_in, cluster_in}
 use Rattle.dsm_core.proofs.Stepping.{ended_some, none_is, at_processor, put_back, who_is, still_numbered, stepped, step_event}
 use Rattle.dsm_core.proofs.Handing.{reached_stepped}
@@ -30,11 +31,17 @@ act-requires-clause-words c =
     let e : total (who c.starves-starved.new.machine).lay ≡ total (lay_of s.lay) = ap (λ u. total u.lay) known in
     ap length c.deref_mut.ensures.value ∙ s.all_words ∙ sym e
 
+pub starves-starved-requires-clause-objects : goal.starves-starved-requires-clause-objects
+starves-starved-requires-clause-objects c =
+    let known = who_is c.args.self.now c.args.p c.index_mut-machine.result.now (omega arith) c.index_mut-machine.ensures.value in
+    let e = ap (λ u. sizes_in u.lay) known ∙ ap sizes_in c.requires.is_for in
+    subst (λ z. ObjectsInside z c.code-code.result.now) (sym e) c.code-code.ensures.objects
+
 pub act-requires-clause-objects : goal.act-requires-clause-objects
 act-requires-clause-objects c =
     let known = c.starves-starved.ensures.who ∙ who_is c.args.self.now c.args.p c.index_mut-machine.result.now (omega arith) c.index_mut-machine.ensures.value in
     let e = ap (λ u. sizes_in u.lay) known ∙ ap sizes_in c.requires.is_for in
-    subst (λ z. ObjectsInside z c.code.result.now) (sym e) c.code.ensures.objects
+    subst (λ z. ObjectsInside z c.code-code.result.now) (sym e) c.code-code.ensures.objects
 
 -- as many words as before
 pub invariant_of-self-2-clause-all_words : goal.invariant_of-self-2-clause-all_words
@@ -60,9 +67,11 @@ returns-clause-step c =
     let f : Machine → Processor = λ k. processor_in k program.code in
     let runs : ending (f m) ≡ None = sym (c.end.ensures.begun program.code) ∙ none_is c.end.result (sym c.is_some.ensures ∙ c.if-is_some.false) in
     let act : Act = first_act (f mid).todo in
-    let words : c.act.new.words ≡ done (who mid).lay s.words.items act = rw (c.code.ensures.value, c.deref_mut.ensures.value) at c.act.ensures.words in
-    let new : f c.act.new.machine ≡ after_answer (who mid) program.code (f mid) (reply (who mid).lay s.words.items act) = rw (c.code.ensures.value, c.deref_mut.ensures.value) at c.act.ensures.event in
-    let e = step_event s c.args.p m (omega arith) c.index_mut-machine.ensures.value program starved mid c.act.new.machine c.act.new.words c.requires.is_for runs (λ is. c.starves-starved.ensures.turn is program.code) c.starves-starved.ensures.who (c.starves-starved.ensures.wanting program.code) words new in
+    let words : c.act.new.words ≡ done (who mid).lay s.words.items act = rw (c.code-code.ensures.value, c.deref_mut.ensures.value) at c.act.ensures.words in
+    let new : f c.act.new.machine ≡ after_answer (who mid) program.code (f mid) (reply (who mid).lay s.words.items act) = rw (c.code-code.ensures.value, c.deref_mut.ensures.value) at c.act.ensures.event in
+    let free : IsTrue starved → held_turn (f m).todo ≡ None = λ is. rw c.code-code.ensures.value at c.starves-starved.ensures.turn is in
+    let wants : f mid ≡ wanting (who m) starved (f m) = rw c.code-code.ensures.value at c.starves-starved.ensures.wanting in
+    let e = step_event s c.args.p m (omega arith) c.index_mut-machine.ensures.value program starved mid c.act.new.machine c.act.new.words c.requires.is_for runs free c.starves-starved.ensures.who wants words new in
     let long : length c.act.new.words ≡ s.words.len = omega (arith, c.act.auto.words, c.deref_mut.ensures.len, s.words.ok) in
     stepped (setup_in s program) (cluster_in s program.code) _ c.args.p starved _ c.event.ensures
     (e.0, (λ i. record { words = with_items_is s.words c.act.new.words long i; processors = map f (slice_set s.machines.items c.args.p c.act.new.machine) }) ∙ e.1)

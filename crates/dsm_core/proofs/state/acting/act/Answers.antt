@@ -2,7 +2,7 @@ use Rattle.std.proofs.Common.{ap, ◌∙◌}
 use Rattle.dsm_words.specs.Op.{words_after, answer_of}
 use Rattle.dsm_words.specs.Words.{done, reply}
 use Rattle.dsm_machine.specs.Machines.{who, processor_in}
-use Rattle.dsm_machine.specs.Processors.{after_answer}
+use Rattle.dsm_protocol.specs.Processors.{after_answer}
 use Rattle.dsm_core.proofs.Stepping.{op_is}
 use Rattle.dsm_core.proofs.state.acting.act.Goals as goal
 

@@ -4,7 +4,7 @@ use Rattle.std.proofs.lemmas.List.{take_all, take_more}
 use Rattle.std.proofs.lemmas.List.Elements.{All-get_or}
 use Rattle.dsm_isa.specs.ProgramText.{Sizes}
 use Rattle.dsm_words.specs.Place.{Lay, lay_of}
-use Rattle.dsm_core.specs.Setups.{frames_of}
+use Rattle.dsm_runs.specs.Setups.{frames_of}
 use Rattle.dsm_core.proofs.FirstWords.{no_value, stored, not_given_before}
 use Rattle.dsm_core.proofs.state.starting.first_frames.Goals as goal
 

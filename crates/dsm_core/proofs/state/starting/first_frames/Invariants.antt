@@ -1,6 +1,6 @@
 use Rattle.std.proofs.Common.{◌≡◌, ◌*◌, take, vec_len}
 use Rattle.dsm_words.specs.Place.{lay_of}
-use Rattle.dsm_core.specs.Setups.{frames_of}
+use Rattle.dsm_runs.specs.Setups.{frames_of}
 use Rattle.dsm_core.proofs.state.starting.first_frames.Given as goal
 
 -- each word has the value of those so far

@@ -2,9 +2,9 @@ use Rattle.std.proofs.Common.{ℕ, length, ap, ◌∙◌, arith}
 use Rattle.std.proofs.lemmas.List.{length-map}
 use Rattle.std.proofs.lemmas.List.FromFn.{length-map-range_with_len}
 use Rattle.dsm_words.specs.Place.{lay_of}
-use Rattle.dsm_machine.specs.Own.{Who}
+use Rattle.dsm_protocol.specs.Own.{Who}
 use Rattle.dsm_machine.specs.Machines.{who, processor_in}
-use Rattle.dsm_machine.specs.Processors.{new_processor}
+use Rattle.dsm_protocol.specs.Processors.{new_processor}
 use Rattle.dsm_core.proofs.Leaving.{one_more, numbers}
 use Rattle.dsm_core.proofs.state.starting.first_machines.Goals as goal
 

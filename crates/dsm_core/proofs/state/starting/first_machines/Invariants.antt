@@ -3,7 +3,7 @@ use Rattle.std.specs.List.{range_with_len}
 use Rattle.dsm_isa.specs.declared.instr.Instr.{Instr}
 use Rattle.dsm_words.specs.Place.{lay_of}
 use Rattle.dsm_machine.specs.Machines.{who, processor_in}
-use Rattle.dsm_machine.specs.Processors.{new_processor}
+use Rattle.dsm_protocol.specs.Processors.{new_processor}
 use Rattle.dsm_core.proofs.state.starting.first_machines.Given as goal
 
 -- the machines so far have their numbers, and have done nothing

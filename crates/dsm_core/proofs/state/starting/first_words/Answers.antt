@@ -2,7 +2,7 @@ use Rattle.std.proofs.Common.{ℕ, ◌∷◌, List, ap, ◌∙◌, arith}
 use Rattle.std.specs.Prelude.{flat_map}
 use Rattle.std.specs.List.{range_with_len}
 use Rattle.dsm_words.specs.Place.{lay_of}
-use Rattle.dsm_core.specs.Setups.{first_words}
+use Rattle.dsm_runs.specs.Setups.{first_words}
 use Rattle.dsm_core.proofs.FirstWords.{filled}
 use Rattle.dsm_core.proofs.state.starting.first_words.Goals as goal
 

@@ -1,5 +1,5 @@
+use Rattle.dsm_protocol.proofs.Reading.{IsMade-after, every_trace_is_local}
 use Rattle.dsm_machine.specs.Machines.{who, processor_in}
-use Rattle.dsm_machine.proofs.Reading.{IsMade-after, every_trace_is_local}
 use Rattle.dsm_machine.proofs.machine.Machine.after.Goals as goal
 
 pub returns-clause-made : goal.returns-clause-made
@@ -12,4 +12,4 @@ returns-clause-made c =
 pub returns-clause-local : goal.returns-clause-local
 returns-clause-local c = λ made.
     let n = c.take_answer.new.self in
-    every_trace_is_local (who n) c.args.code.now (processor_in n c.args.code.now) (returns-clause-made c made)
+    every_trace_is_local (who n) c.args.code.now (processor_in n c.args.code.now) n.p_in (returns-clause-made c made)

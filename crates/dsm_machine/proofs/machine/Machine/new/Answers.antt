@@ -1,7 +1,7 @@
 use Rattle.std.proofs.Common.{sym, ap, subst}
 use Rattle.dsm_machine.specs.Machines.{who}
-use Rattle.dsm_machine.specs.Processors.{going_on, IsMade}
-use Rattle.dsm_machine.proofs.Reading.{IsMade-new}
+use Rattle.dsm_protocol.specs.Processors.{going_on, IsMade}
+use Rattle.dsm_protocol.proofs.Reading.{IsMade-new}
 use Rattle.dsm_machine.proofs.machine.Machine.new.Goals as goal
 
 pub returns-clause-new : goal.returns-clause-new

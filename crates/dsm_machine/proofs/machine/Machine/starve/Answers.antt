@@ -1,9 +1,9 @@
 use Rattle.std.proofs.Common.{sym, ap, ◌∙◌, subst, if◌then◌else◌}
 use Rattle.dsm_machine.specs.Machines.{who, own_of, seen, processor_in}
-use Rattle.dsm_machine.specs.Steps.{starved_job}
-use Rattle.dsm_machine.specs.Processors.{IsMade}
-use Rattle.dsm_machine.proofs.Reading.{IsMade-starved}
-use Rattle.dsm_machine.proofs.Settling.{same_own, still_runs}
+use Rattle.dsm_protocol.specs.Steps.{starved_job}
+use Rattle.dsm_protocol.specs.Processors.{IsMade}
+use Rattle.dsm_protocol.proofs.Reading.{IsMade-starved}
+use Rattle.dsm_protocol.proofs.Settling.{same_own, still_runs}
 use Rattle.dsm_machine.proofs.machine.Machine.starve.Goals as goal
 
 pub returns-clause-starved : goal.returns-clause-starved

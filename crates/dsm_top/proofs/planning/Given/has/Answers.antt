@@ -1,6 +1,6 @@
 use Rattle.std.proofs.Common.{codes}
-use Rattle.dsm_top.specs.Plans.{kind_of, turns_of, looks_of, steps_of}
-use Rattle.dsm_top.proofs.Settings.{given-Any, kind-named, turns-named, looks-named, steps-named}
+use Rattle.dsm_top.specs.Plans.{kind_of, turns_of, looks_of, steps_of, trace_of}
+use Rattle.dsm_top.proofs.Settings.{given-Any, kind-named, turns-named, looks-named, steps-named, trace-named}
 use Rattle.dsm_top.proofs.planning.Given.has.Goals as goal
 
 pub returns-in-Kind : goal.returns-in-Kind
@@ -14,3 +14,6 @@ returns-in-Looks c settings given = rw (c.is_some-in-Looks.ensures, c.in-Looks.i
 
 pub returns-in-Steps : goal.returns-in-Steps
 returns-in-Steps c settings given = rw (c.is_some-in-Steps.ensures, c.in-Steps.is) (given-Any steps_of (codes "steps") steps-named settings c.args.self.steps given.steps)
+
+pub returns-in-Trace : goal.returns-in-Trace
+returns-in-Trace c settings given = rw (c.is_some-in-Trace.ensures, c.in-Trace.is) (given-Any trace_of (codes "trace") trace-named settings c.args.self.trace given.trace)

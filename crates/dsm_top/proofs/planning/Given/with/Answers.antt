@@ -1,4 +1,4 @@
-use Rattle.dsm_top.specs.declared.plans.Setting.TheVariants.{Kind as OfKind, Turns, Looks, Steps}
+use Rattle.dsm_top.specs.declared.plans.Setting.TheVariants.{Kind as OfKind, Turns, Looks, Steps, Trace}
 use Rattle.dsm_top.proofs.Settings.{with-IsGivenBy}
 use Rattle.dsm_top.proofs.planning.Given.with.Goals as goal
 
@@ -13,3 +13,6 @@ returns-in-Looks c = rw c.in-Looks.is (with-IsGivenBy c.args.self (Looks c.in-Lo
 
 pub returns-in-Steps : goal.returns-in-Steps
 returns-in-Steps c = rw c.in-Steps.is (with-IsGivenBy c.args.self (Steps c.in-Steps.n))
+
+pub returns-in-Trace : goal.returns-in-Trace
+returns-in-Trace c = rw c.in-Trace.is (with-IsGivenBy c.args.self Trace)

@@ -1,6 +1,0 @@
-use Rattle.dsm_core.proofs.Mappings.{leaves_other_mappings}
-use Rattle.dsm_core.proofs.Promising.{every_run}
-use Rattle.dsm_core.proofs.laws.run_law.Goals as goal
-
-pub returns : goal.returns
-returns c = record { runs = every_run; mappings = leaves_other_mappings }

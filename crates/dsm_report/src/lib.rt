@@ -1,0 +1,13 @@
+// The texts that a run and a program are told in.
+#![tactic(auto)]
+
+mod counts;
+mod ends;
+mod outs;
+mod pages;
+pub mod reporting;
+#[cfg(test)]
+mod tests;
+mod traces;
+
+pub use dsm_list::listing::shape_text;

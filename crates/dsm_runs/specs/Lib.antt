@@ -1,0 +1,11 @@
+pub mod Clusters
+pub mod Examples
+pub mod Laws
+pub mod Legality
+pub mod Moments
+pub mod Outcomes
+pub mod Promises
+pub mod Setups
+pub mod Stopping
+pub mod Turning
+pub mod Wanting
