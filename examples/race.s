@@ -2,7 +2,8 @@
 ; with nothing between them: a race. Then it prints how often its load gave another's number, and its own word. Run it with
 ; `sim 1x4`, `sim 2x2` and `sim 4x1`; there is room for 7 processors.
 ; Look at the first number of each processor: some 50 on one node, where all use one copy of the page; half as many on two nodes; and
-; 0 on four, since a node that has its copy gets what others stored behind an acquire alone. Look at the second number: it is 50
+; 0 on four, since a node that has its copy gets what others stored behind an acquire alone. With `kind=mixed seed=1` and other seeds
+; the events come in other orders: `sim 1x4` then gives other first numbers, and `sim 4x1` still 0. Look at the second number: it is 50
 ; each time. That the neighbour on the page races does no harm to a word that is ordered.
 ; With `lock 0` in front of the store behind `round:` and `unlock 0` behind the load of word 7, the first number is 0 on each cluster.
 ; Of a load in a race little is promised: it gave the first value, or one that some store stored which the load is not before.

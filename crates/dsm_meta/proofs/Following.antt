@@ -10,7 +10,7 @@ use Rattle.dsm_core.specs.declared.state.Step.{Step}
 use Rattle.dsm_core.specs.declared.state.Step.TheVariants.{Did, Ended, NoMemory}
 use Rattle.dsm_core.specs.States.{setup_of, setup_in, cluster_in, IsEvent, HasEnded, Stepped}
 use Rattle.dsm_runs.proofs.Runs.{reached_none, reached_one_more, are_defined_none, are_defined_one_more}
-use Rattle.dsm_meta.specs.Always.{AlwaysLoosely}
+use Rattle.dsm_ties.specs.Always.{AlwaysLoosely}
 use Rattle.dsm_meta.specs.Following.{Begins, Leaves_out, Takes, Followed, HoldsIn}
 use Rattle.dsm_meta.proofs.Reached.{holds_reached}
 

@@ -4,7 +4,7 @@ use Rattle.dsm_protocol.specs.Jobs.{Job, Make, Again, Mark, Ask, Begin, Ended, h
 use Rattle.dsm_runs.proofs.Lists.{some_one}
 use Rattle.dsm_runs.proofs.Seating.{holds_its_turn, each_turn_is_held}
 use Rattle.dsm_meta.specs.Facts.{TurnHolders}
-use Rattle.dsm_meta.specs.Always.{AlwaysLoosely}
+use Rattle.dsm_ties.specs.Always.{AlwaysLoosely}
 
 -- one that has ended has nothing to give back
 ended_none : (j : Job) → has_ended j ≡ true → held_turn j ≡ None

@@ -62,5 +62,5 @@ pub record HomeFixed (s : Setup) (c : Cluster) : Type 0 where
   -- whatever events come, a page that has a home keeps it
   pub stays : (g : ℕ) (later : List (Event × Option ℕ)) → g < s.program.shape.pages → word (lay_in s) c.words (Home g) ≢ 0
       → word (lay_in s) (after_all_loose s c later).words (Home g) ≡ word (lay_in s) c.words (Home g)
-  -- and one that has none is used by no node
+  -- and one that has none is in no node's directory
   pub unused : (n g : ℕ) → n < s.nodes → g < s.program.shape.pages → word (lay_in s) c.words (Home g) ≡ 0 → word (lay_in s) c.words (Dir n g) ≡ 0

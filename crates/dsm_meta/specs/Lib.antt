@@ -1,3 +1,2 @@
-pub mod Always
 pub mod Facts
 pub mod Following

@@ -1,6 +1,8 @@
 // The state behind a schedule's events.
 ghost use Rattle.std.specs.Prelude.{◌≡◌, ◌<◌, ◌*◌, All, IfOk};
 ghost use Rattle.dsm_runs.specs.Clusters.{IsReached};
+ghost use Rattle.dsm_ties.specs.Clocks.{ClockBound, ClocksStand};
+ghost use Rattle.dsm_ties.specs.Holders.{OneHolder, UnregisteredUnmapped, WritersTwinned, HomeBare, HomelessUntouched, HomelessUnwritten};
 ghost use Rattle.dsm_core.specs.States.{setup_of, setup_in, cluster_in, IsFor};
 ghost use Rattle.dsm_meta.specs.Facts.{SyncIsLegal, OwnMaps, TurnHolders, SomeGoesOn, SparesMappings, HomeFixed};
 ghost use Rattle.dsm_meta.specs.Following.{Followed, HoldsIn};
@@ -40,8 +42,23 @@ pub fn pages_after(
     ensures no_circle { IfOk result (λ st. HoldsIn SomeGoesOn program.now st) }
     // no event changes another processor's mapping,
     ensures other_maps { IfOk result (λ st. HoldsIn SparesMappings program.now st) }
-    // and a page that has a home keeps it, and one that has none is used by no node.
+    // a page that has a home keeps it, and one that has none is in no node's directory,
     ensures home_fixed { IfOk result (λ st. HoldsIn HomeFixed program.now st) }
+    // a node's clock is at most 1 more than the draws that its processors' instructions may make,
+    ensures clock_bound { IfOk result (λ st. HoldsIn ClockBound program.now st) }
+    // so no clock is ever 0, and none comes round,
+    ensures clocks { IfOk result (λ st. HoldsIn ClocksStand program.now st) }
+    // where a node has a page alone, every other one has nothing of it that may be used,
+    ensures one_holder { IfOk result (λ st. HoldsIn OneHolder program.now st) }
+    // a node that does not use a page has no mapping and no twin of it,
+    ensures unregistered { IfOk result (λ st. HoldsIn UnregisteredUnmapped program.now st) }
+    // who may store away from the home has a node with the page alone, or with a twin,
+    ensures writers { IfOk result (λ st. HoldsIn WritersTwinned program.now st) }
+    // the home has no twin,
+    ensures home_bare { IfOk result (λ st. HoldsIn HomeBare program.now st) }
+    // and a page without a home is used by no node, and has the words with which it started.
+    ensures untouched { IfOk result (λ st. HoldsIn HomelessUntouched program.now st) }
+    ensures unwritten { IfOk result (λ st. HoldsIn HomelessUnwritten program.now st) }
 {
     let mut state = State::start(alloc, program, t, limits)?;
     for p in schedule {

@@ -1,6 +1,8 @@
 // What holds of every state that a list of loose events leaves.
+ghost use Rattle.dsm_ties.specs.Always.{AlwaysLoosely};
+ghost use Rattle.dsm_ties.specs.Clocks.{ClockBound, ClocksStand};
+ghost use Rattle.dsm_ties.specs.Holders.{OneHolder, UnregisteredUnmapped, WritersTwinned, HomeBare, HomelessUntouched, HomelessUnwritten};
 ghost use Rattle.dsm_meta.specs.Facts.{SyncIsLegal, OwnMaps, TurnHolders, SomeGoesOn, SparesMappings, HomeFixed};
-ghost use Rattle.dsm_meta.specs.Always.{AlwaysLoosely};
 
 /// What holds of every state, over every list of events, whatever the loads of frames and twins answer. It does nothing:
 /// its clauses are what it is for.
@@ -16,6 +18,21 @@ pub fn every_loose()
     ensures no_circle { AlwaysLoosely SomeGoesOn }
     // No event changes another processor's mapping.
     ensures other_maps { AlwaysLoosely SparesMappings }
-    // A page that has a home keeps it, and one that has none is used by no node.
+    // A page that has a home keeps it, and one that has none is in no node's directory.
     ensures home_fixed { AlwaysLoosely HomeFixed }
+    // A node's clock is at most 1 more than the draws that its processors' instructions may make.
+    ensures clock_bound { AlwaysLoosely ClockBound }
+    // So no clock is ever 0, and none comes round.
+    ensures clocks { AlwaysLoosely ClocksStand }
+    // Where a node has a page alone, every other one has nothing of it that may be used.
+    ensures one_holder { AlwaysLoosely OneHolder }
+    // A node that does not use a page has no mapping and no twin of it.
+    ensures unregistered { AlwaysLoosely UnregisteredUnmapped }
+    // Who may store away from the home has a node with the page alone, or with a twin.
+    ensures writers { AlwaysLoosely WritersTwinned }
+    // The home has no twin.
+    ensures home_bare { AlwaysLoosely HomeBare }
+    // A page without a home is used by no node, and has the words with which it started.
+    ensures untouched { AlwaysLoosely HomelessUntouched }
+    ensures unwritten { AlwaysLoosely HomelessUnwritten }
 {}

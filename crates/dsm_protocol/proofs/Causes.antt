@@ -29,10 +29,9 @@ use Rattle.dsm_protocol.specs.Own.{Own, Who, Unready as Unready_looks, setting_o
 use Rattle.dsm_protocol.specs.Jobs.{Job, Make, Again, Mark, Ask, Begin, Ended, call, own_after, job_after}
 use Rattle.dsm_protocol.specs.Steps.{is_last, heed_job, stop_job, unready_job, tried_job, looked_job, look_job, next_instruction, release_job, acquire_job, closing_job, fault_job, allows, page_of, access_job, load_job, store_job, free_job, meet_job, raise_job, action_job, head_job}
 use Rattle.dsm_protocol.specs.Processors.{Processor, Given, settled, run_on, ending, wanting, after_given, processor_of}
-use Rattle.dsm_protocol.specs.Rights.{Over}
 use Rattle.dsm_protocol.specs.Ends.{Cause, EveryEndHasItsCause}
-use Rattle.dsm_protocol.proofs.Phases.{IsPlaced, placed}
-use Rattle.dsm_protocol.proofs.Working.{fault_works, release_works, acquire_works, closing_works}
+use Rattle.dsm_protocol.proofs.Placed.{IsPlaced, placed}
+use Rattle.dsm_protocol.proofs.Righting.{fault_works, release_works, acquire_works, closing_works}
 use Rattle.dsm_protocol.proofs.Keeping.{with_others, Throughout, IsKept, works_kept}
 use Rattle.dsm_protocol.proofs.Inside.{load_inside, store_inside}
 
@@ -120,20 +119,20 @@ module _ (u : Who) (code : List Instr) (at : IsPlaced u) where
   }
 
   release_holds : (o : Own) (j : Job) → Throughout o Holds j → Holds o (release_job u j)
-  release_holds o j k = works_kept o Holds (holds_kept o) (release_works u j at Over) k o.maps o.dirty o.counts
+  release_holds o j k = works_kept o Holds (holds_kept o) (release_works u j at) k o.maps o.dirty o.counts
 
   acquire_holds : (o : Own) (j : Job) → Throughout o Holds j → Holds o (acquire_job u j)
-  acquire_holds o j k = works_kept o Holds (holds_kept o) (acquire_works u j at Over) k o.maps o.dirty o.counts
+  acquire_holds o j k = works_kept o Holds (holds_kept o) (acquire_works u j at) k o.maps o.dirty o.counts
 
   closing_holds : (o : Own) (j : Job) → Throughout o Holds j → Holds o (closing_job u j)
-  closing_holds o j k = works_kept o Holds (holds_kept o) (closing_works u j at Over) k o.maps o.dirty o.counts
+  closing_holds o j k = works_kept o Holds (holds_kept o) (closing_works u j at) k o.maps o.dirty o.counts
 
   access_stands : (o : Own) (m : Processor) (g : Given) (write : Bool) (w : ℕ) (j : Job) → page_of u w < u.lay.pages → Stands m g o j → Throughout o Holds j → Stands m g o (access_job u o write w j)
   access_stands o m g write w j inside h k = go (allows write (mapping o (page_of u w)))
     where
       go : (b : Bool) → Stands m g o (if b then j else fault_job u write (page_of u w) j)
       go true = h
-      go false = works_kept o Holds (holds_kept o) (fault_works u j at (page_of u w) inside write Over) k o.maps o.dirty o.counts m g
+      go false = works_kept o Holds (holds_kept o) (fault_works u j at write w inside) k o.maps o.dirty o.counts m g
 
   last_is : (looks : Option ℕ) (k : ℕ) → is_last looks k ≡ true → looks ≡ Some k
   last_is None k e = absurd (cc e)

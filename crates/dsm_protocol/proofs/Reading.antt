@@ -27,10 +27,9 @@ use Rattle.dsm_protocol.specs.Own.{Own, Who, setting_of, mapping, new_own, Unrea
 use Rattle.dsm_protocol.specs.Jobs.{Job, Make, Again, Mark, Ask, Begin, Ended, call, own_after, job_after, end_of, has_ended}
 use Rattle.dsm_protocol.specs.Steps.{is_last, heed_job, stop_job, unready_job, tried_job, lock_job, looked_job, look_job, next_instruction, release_job, acquire_job, closing_job, fault_job, allows, page_of, access_job, load_job, store_job, free_job, meet_job, raise_job, action_job, head_job, starved_job}
 use Rattle.dsm_protocol.specs.Processors.{Processor, Given, settled, new_processor, run_on, ending, wanting, after_answer, processor_of, IsMade}
-use Rattle.dsm_protocol.specs.Rights.{Over}
 use Rattle.dsm_protocol.specs.Laws.{IsLocal, EveryTraceIsLocal}
-use Rattle.dsm_protocol.proofs.Phases.{IsPlaced, placed}
-use Rattle.dsm_protocol.proofs.Working.{fault_works, release_works, acquire_works, closing_works}
+use Rattle.dsm_protocol.proofs.Placed.{IsPlaced, placed}
+use Rattle.dsm_protocol.proofs.Righting.{fault_works, release_works, acquire_works, closing_works}
 use Rattle.dsm_protocol.proofs.Keeping.{Throughout, IsKept, works_kept}
 use Rattle.dsm_protocol.proofs.Inside.{load_inside, store_inside}
 
@@ -78,20 +77,20 @@ module _ (u : Who) (code : List Instr) (at : IsPlaced u) where
   }
 
   release_sound : (o : Own) (j : Job) → Stands o → Throughout o Sound j → Sound o (release_job u j)
-  release_sound o j h k = works_kept o Sound (sound_kept o h) (release_works u j at Over) k o.maps o.dirty o.counts
+  release_sound o j h k = works_kept o Sound (sound_kept o h) (release_works u j at) k o.maps o.dirty o.counts
 
   acquire_sound : (o : Own) (j : Job) → Stands o → Throughout o Sound j → Sound o (acquire_job u j)
-  acquire_sound o j h k = works_kept o Sound (sound_kept o h) (acquire_works u j at Over) k o.maps o.dirty o.counts
+  acquire_sound o j h k = works_kept o Sound (sound_kept o h) (acquire_works u j at) k o.maps o.dirty o.counts
 
   closing_sound : (o : Own) (j : Job) → Stands o → Throughout o Sound j → Sound o (closing_job u j)
-  closing_sound o j h k = works_kept o Sound (sound_kept o h) (closing_works u j at Over) k o.maps o.dirty o.counts
+  closing_sound o j h k = works_kept o Sound (sound_kept o h) (closing_works u j at) k o.maps o.dirty o.counts
 
   access_sound : (o : Own) (write : Bool) (w : ℕ) (j : Job) → page_of u w < u.lay.pages → Stands o → Throughout o Sound j → Sound o (access_job u o write w j)
   access_sound o write w j inside h k = go (allows write (mapping o (page_of u w)))
     where
       go : (b : Bool) → Sound o (if b then j else fault_job u write (page_of u w) j)
       go true = k o.maps o.dirty o.counts
-      go false = works_kept o Sound (sound_kept o h) (fault_works u j at (page_of u w) inside write Over) k o.maps o.dirty o.counts
+      go false = works_kept o Sound (sound_kept o h) (fault_works u j at write w inside) k o.maps o.dirty o.counts
 
   -- it stands where one that waits may end
   abbrev Waits : Own → Type 0

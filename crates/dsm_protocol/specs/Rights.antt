@@ -2,7 +2,7 @@
 use Rattle.std.specs.Prelude.{◌≡◌, ℕ, ◌+◌, ◌<◌, Option, None, Some}
 use Rattle.dsm_words.specs.declared.item.Item.TheVariants.{Frame, Twin, Twined, Map, Dir, Update, Flush, Notice, Clock, Global, Own, Nle, Home}
 use Rattle.dsm_words.specs.Place.{IsWithin}
-use Rattle.dsm_words.specs.Script.{Act, Get, Put, Swap, Change, Add, Or, Script, End, Do, Until, item_of}
+use Rattle.dsm_words.specs.Script.{Act, Get, Put, Swap, Change, Add, Or, item_of}
 use Rattle.dsm_clock.specs.declared.turns.TurnId.{TurnId}
 use Rattle.dsm_clock.specs.declared.turns.TurnId.TheVariants.{Page, Notices}
 use Rattle.dsm_clock.specs.Turns.{turn_item}
@@ -32,12 +32,6 @@ Rights u t _ = ⊥
 abbrev pub Legal : Who → Option TurnId → Act → Type 0
 Legal u t (Get it) = Unit {0}
 Legal u t a = IsWithin u.lay (item_of a) × Rights u t a
-
--- a phase does so under this turn throughout, and its result is as said
-abbrev pub Allows : {R : Type 0} → Who → Option TurnId → (R → Type 0) → Script R → Type 0
-Allows u t Q (End r) = Q r
-Allows u t Q (Do a k) = Legal u t a × ((x : ℕ) → Allows u t Q (k x))
-Allows u t Q (Until a wanted s) = ⊥
 
 -- a change of what it holds that is of no matter to others
 abbrev pub IsInner : Note → Type 0

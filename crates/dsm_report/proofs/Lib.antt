@@ -1,1 +1,2 @@
 pub mod PageLines
+pub mod Printed

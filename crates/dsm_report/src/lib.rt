@@ -6,6 +6,7 @@ mod ends;
 mod outs;
 mod pages;
 pub mod reporting;
+pub mod summing;
 #[cfg(test)]
 mod tests;
 mod traces;

@@ -26,6 +26,7 @@ use Rattle.dsm_protocol.specs.Jobs.{Job, Note, Give, Go, Move, Append, Map_own, 
 use Rattle.dsm_protocol.specs.Steps.{next_instruction, allows, page_of, fault_job, address_item, is_last, heed_job, stop_job, unready_job, tried_job, free_job, looked_job, look_job, release_job, acquire_job, closing_job, meet_job, raise_job, load_job, store_job, action_job, head_job}
 use Rattle.dsm_protocol.specs.Processors.{settled}
 use Rattle.dsm_runs.proofs.Typing.{entries_after, Keeps, Stands, StandsAt, IsRule}
+use Rattle.dsm_protocol.proofs.Inside.{page_in}
 use Rattle.dsm_runs.proofs.OffFrames.{IsAside, IsSilent, IsAlone, OffFrames, Over, Makes, Repeats, Marks, Asks, fault_off, release_off, acquire_off, closing_off}
 
 -- an operation with its answer leaves this entry: a load or store is of the address's word, and with any other entry it is on no frame's word
@@ -90,10 +91,10 @@ module _ (u : Who) (code : List Instr) (one : IsAlone u) where
 
   -- so does what follows a pass
   acquire_keeps : (o : Own) (a : Act) (x : ℕ) (r : Obj) (c : ℕ) → IsAside (item_of a) → Keeping a x (Pass r c ∷ []) o (acquire_job u next_instruction)
-  acquire_keeps o a x r c aside = off_keeps (acquire_off u one next_instruction Over) next_rests o a x (Pass r c ∷ []) aside
+  acquire_keeps o a x r c aside = off_keeps (acquire_off u one next_instruction) next_rests o a x (Pass r c ∷ []) aside
 
   closing_keeps : (o : Own) (a : Act) (x c : ℕ) → IsAside (item_of a) → Keeping a x (Pass CloseOf c ∷ []) o (closing_job u (Ended Halted))
-  closing_keeps o a x c aside = off_keeps (closing_off u one (Ended Halted) Over) (λ o a x es ok. (tt, ok)) o a x (Pass CloseOf c ∷ []) aside
+  closing_keeps o a x c aside = off_keeps (closing_off u one (Ended Halted)) (λ o a x es ok. (tt, ok)) o a x (Pass CloseOf c ∷ []) aside
 
   heed_keeps : (o : Own) (a : Act) (x : ℕ) (again : Head) → IsAside (item_of a) → Keeping a x [] o (heed_job again x)
   heed_keeps o a x again aside = go (x == 0)
@@ -132,24 +133,24 @@ module _ (u : Who) (code : List Instr) (one : IsAlone u) where
   load_stands : (o : Own) (d w : ℕ) → w < u.lay.pages * u.lay.words → (b : Bool) → let m = settled o (if b then load_job u d w else fault_job u false (page_of u w) (load_job u d w)) in Standing m.own m.todo
   load_stands o d w inside true = λ y. (tt, (inside, refl, refl), tt)
   load_stands o d w inside false =
-      off_stands (fault_off u one (load_job u d w) (page_of u w) false Over) (λ o a x es ok. (tt, ok, λ y. (tt, (inside, refl, refl), tt))) (λ o y. (tt, (inside, refl, refl), tt)) o
+      off_stands (fault_off u one (load_job u d w) false w (page_in u.lay.pages u.lay.words w inside)) (λ o a x es ok. (tt, ok, λ y. (tt, (inside, refl, refl), tt))) (λ o y. (tt, (inside, refl, refl), tt)) o
 
   store_stands : (o : Own) (w v : ℕ) → w < u.lay.pages * u.lay.words → (b : Bool) → let m = settled o (if b then store_job u w v else fault_job u true (page_of u w) (store_job u w v)) in Standing m.own m.todo
   store_stands o w v inside true = λ y. (tt, (inside, refl), tt)
   store_stands o w v inside false =
-      off_stands (fault_off u one (store_job u w v) (page_of u w) true Over) (λ o a x es ok. (tt, ok, λ y. (tt, (inside, refl), tt))) (λ o y. (tt, (inside, refl), tt)) o
+      off_stands (fault_off u one (store_job u w v) true w (page_in u.lay.pages u.lay.words w inside)) (λ o a x es ok. (tt, ok, λ y. (tt, (inside, refl), tt))) (λ o y. (tt, (inside, refl), tt)) o
 
   -- a release, and what signals behind it
   free_stands : (o : Own) (l k : ℕ) → StandsAt (Accesses u) AnyHead tt (settled o (release_job u (free_job l k)))
-  free_stands o l k = off_stands (release_off u one (free_job l k) Over) (λ o a x es ok. (tt, ok, λ y. (tt, tt, tt))) (λ o y. (tt, tt, tt)) o
+  free_stands o l k = off_stands (release_off u one (free_job l k)) (λ o a x es ok. (tt, ok, λ y. (tt, tt, tt))) (λ o y. (tt, tt, tt)) o
 
   raise_stands : (o : Own) (f : ℕ) → StandsAt (Accesses u) AnyHead tt (settled o (release_job u (raise_job f)))
-  raise_stands o f = off_stands (release_off u one (raise_job f) Over) (λ o a x es ok. (tt, ok, λ y. (tt, tt, tt))) (λ o y. (tt, tt, tt)) o
+  raise_stands o f = off_stands (release_off u one (raise_job f)) (λ o a x es ok. (tt, ok, λ y. (tt, tt, tt))) (λ o y. (tt, tt, tt)) o
 
   meet_stands : (o : Own) (of : Counter) → StandsAt (Accesses u) AnyHead tt (settled o (release_job u (meet_job u of)))
-  meet_stands o (Barrier b) = off_stands (release_off u one (meet_job u (Barrier b)) Over) (λ o a x es ok. (tt, ok, λ y. (tt, tt, tt))) (λ o y. (tt, tt, tt)) o
-  meet_stands o (Flag f) = off_stands (release_off u one (meet_job u (Flag f)) Over) (λ o a x es ok. (tt, ok, λ y. (tt, tt, tt))) (λ o y. (tt, tt, tt)) o
-  meet_stands o Close = off_stands (release_off u one (meet_job u Close) Over) (λ o a x es ok. (tt, ok, λ y. (tt, tt, tt))) (λ o y. (tt, tt, tt)) o
+  meet_stands o (Barrier b) = off_stands (release_off u one (meet_job u (Barrier b))) (λ o a x es ok. (tt, ok, λ y. (tt, tt, tt))) (λ o y. (tt, tt, tt)) o
+  meet_stands o (Flag f) = off_stands (release_off u one (meet_job u (Flag f))) (λ o a x es ok. (tt, ok, λ y. (tt, tt, tt))) (λ o y. (tt, tt, tt)) o
+  meet_stands o Close = off_stands (release_off u one (meet_job u Close)) (λ o a x es ok. (tt, ok, λ y. (tt, tt, tt))) (λ o y. (tt, tt, tt)) o
 
   action_stands : (o : Own) (a : Action) → IsInside (u.lay.pages * u.lay.words) a → let m = settled o (action_job u o a) in Standing m.own m.todo
   action_stands o (Set d v) inside = λ y. (tt, tt, tt)

@@ -27,8 +27,8 @@ use Rattle.dsm_protocol.specs.Jobs.{Note, Give, Go, Move, Append, Map_own, Soil,
 use Rattle.dsm_protocol.specs.Steps.{next_instruction, is_last, stop_job, heed_job, unready_job, tried_job, lock_job, looked_job, look_job, passed_job, release_job, acquire_job, fault_job, allows, page_of, load_job, store_job, free_job, meet_job, raise_job, action_job, head_job}
 use Rattle.dsm_protocol.specs.Processors.{Processor, settled, begun, run_on}
 use Rattle.dsm_protocol.specs.Rights.{Rights, Legal, IsInner, May, Plain, Maps, Gives, Works, Over, Makes, Takes, Marks_map, Marks, Asks}
-use Rattle.dsm_protocol.proofs.Phases.{IsPlaced}
-use Rattle.dsm_protocol.proofs.Working.{fault_works, release_works, acquire_works, closing_works}
+use Rattle.dsm_protocol.proofs.Placed.{IsPlaced}
+use Rattle.dsm_protocol.proofs.Righting.{fault_works, release_works, acquire_works, closing_works}
 use Rattle.dsm_local.proofs.Inside.{IsInside-next_action}
 use Rattle.dsm_protocol.proofs.Inside.{page_in}
 
@@ -153,10 +153,10 @@ module _ (u : Who) where
 
   module _ (at : IsPlaced u) where
     acquire_keeps : Stands (acquire_job u next_instruction)
-    acquire_keeps = works_keeps u (acquire_works u next_instruction at Over) (refl, refl)
+    acquire_keeps = works_keeps u (acquire_works u next_instruction at) (refl, refl)
 
     release_keeps : (j : Job) → Stands j → Stands (release_job u j)
-    release_keeps j k = works_keeps u (release_works u j at Over) k
+    release_keeps j k = works_keeps u (release_works u j at) k
 
     tried_keeps : (l : ℕ) (got : Got) → Stands (tried_job u l got)
     tried_keeps l (Ready c) = acquire_keeps
@@ -172,7 +172,7 @@ module _ (u : Who) where
     passed_keeps : (of : Counter) → Stands (passed_job u of)
     passed_keeps (Barrier b) = acquire_keeps
     passed_keeps (Flag f) = acquire_keeps
-    passed_keeps Close = works_keeps u (closing_works u (Ended Halted) at Over) (refl, refl)
+    passed_keeps Close = works_keeps u (closing_works u (Ended Halted) at) (refl, refl)
 
     looked_keeps : (of : Counter) (need : ℕ) (got : Got) → Stands (looked_job u of need got)
     looked_keeps of need (Ready c) = passed_keeps of
@@ -188,7 +188,7 @@ module _ (u : Who) where
 
     access_keeps : (write : Bool) (w : ℕ) (j : Job) (b : Bool) → w < u.lay.pages * u.lay.words → Stands j → Stands (if b then j else fault_job u write (page_of u w) j)
     access_keeps write w j true inside k = k
-    access_keeps write w j false inside k = works_keeps u (fault_works u j at (page_of u w) (page_in u.lay.pages u.lay.words w inside) write Over) k
+    access_keeps write w j false inside k = works_keeps u (fault_works u j at write w (page_in u.lay.pages u.lay.words w inside)) k
 
     action_keeps : (o : Own) (a : Action) → IsInside (u.lay.pages * u.lay.words) a → Stands (action_job u o a)
     action_keeps o (Set d v) inside = (refl, None, None, Apart tt, λ x. (refl, refl))

@@ -1,25 +1,27 @@
 -- On one node protocol work is on no frame: its node is the home of every page, and nothing is copied.
-use Rattle.std.proofs.Common.{◌≡◌, ℕ, zero, suc, ◌+◌, ◌-◌, ◌*◌, ◌%◌, ◌<◌, ◌≤◌, ◌==◌, Bool, true, false, List, Option, None, Some, sym, ap, ◌∙◌, arith, if◌then◌else◌}
-use Rattle.std.specs.Prelude.{◌&&◌, ◌||◌, not, IfSome, nat_lt}
-use Rattle.std.specs.Int.{bit_at}
+use Rattle.std.proofs.Common.{◌≡◌, ℕ, ◌+◌, ◌-◌, ◌*◌, ◌%◌, ◌<◌, ◌==◌, Bool, true, false, List, Some, refl, sym, ap, subst, ◌∙◌, arith, if◌then◌else◌}
+use Rattle.std.specs.Prelude.{◌&&◌, ◌||◌, not, nat_lt}
 use Rattle.std.proofs.Math.Nat.{mod-one, div-eq_of_lt}
 use Rattle.std.proofs.lemmas.Bool.{eq-eqb}
+use Rattle.dsm_entry.specs.declared.entry.Entry.TheVariants.{Load, Store}
 use Rattle.dsm_words.specs.declared.item.Item.{Item}
-use Rattle.dsm_words.specs.declared.item.Item.TheVariants.{Frame, Home, Dir, Global, Own as OwnWord, Nle}
-use Rattle.dsm_words.specs.Place.{groups, processors}
-use Rattle.dsm_words.specs.Pages.{group_of, bit_of, pages_in, has_page, take_from, take_pages}
-use Rattle.dsm_words.specs.Parts.{each}
-use Rattle.dsm_words.specs.Script.{Act, Get, Put, Swap, Change, Add, Or, Script, End, Do, Until, item_of}
-use Rattle.dsm_directory.specs.declared.row.Row.{Row}
-use Rattle.dsm_directory.specs.Directory.{row_with, is_busy, sharers_from, sharers_script, holder_from, holder_script, leave_end, leave_from, leave_script}
-use Rattle.dsm_directory.specs.Homes.{find_home_script}
-use Rattle.dsm_twin.specs.Twins.{drop_twin_end, drop_twin_from, drop_twin_script}
-use Rattle.dsm_notice.specs.Notices.{post_from, post_script, flag_from, hear_from, hear, drain_groups, drain_from, drain_script, take_own_script}
-use Rattle.dsm_exclusive.specs.Breaking.{break_tell, break_map, break_end, break_words, break_copy, break_script}
-use Rattle.dsm_exclusive.specs.Telling.{take_nle_script}
-use Rattle.dsm_protocol.specs.Own.{Own, Who, node_of, mapping, is_dirty}
-use Rattle.dsm_protocol.specs.Jobs.{Job, Note, Moment, Append, Make, Again, Mark, Ask, call, counting, call_counting}
-use Rattle.dsm_protocol.specs.Steps.{take_job, give_job, map_job, break_job, within_turn, visit_job, visits_from, alone_job, soil_job, shared_job, share_job, entered_job, enter_job, claim_job, sole_job, visited_job, leave_job, busy_job, seen_job, look_round_job, common_job, fault_job, done_job, lower_job, drop_job, sends_job, told_job, post_job, sent_job, send_job, tell_job, release_page, release_from, release_job, unmap_job, check_job, acquire_page, acquire_from, acquire_job, closing_page, closing_from, closing_job}
+use Rattle.dsm_words.specs.declared.item.Item.TheVariants.{Frame}
+use Rattle.dsm_words.specs.Place.{IsWithin, processors}
+use Rattle.dsm_words.specs.Script.{Act, item_of}
+use Rattle.dsm_clock.specs.declared.turns.TurnId.{TurnId}
+use Rattle.dsm_clock.specs.declared.turns.TurnId.TheVariants.{Page, Notices}
+use Rattle.dsm_clock.specs.Turns.{turn_item}
+use Rattle.dsm_protocol.specs.Own.{Own, Who, node_of}
+use Rattle.dsm_protocol.specs.Jobs.{Job, Note, Append, Make, Again, Mark, Ask}
+use Rattle.dsm_protocol.specs.Steps.{page_of, fault_job, release_job, acquire_job, closing_job}
+use Rattle.dsm_protocol.specs.Stages.{Cause, Fault, Closing, Seeker, For_fault, For_release, For_closing, Whole, Stage, Mapped, Seeking, Missing, Clearing, Registering, Sharing, Wanting, Parting, Visiting, Looking, Breaking, Marking, Saving, Ending, Broken, Broadcast, Parted, Back, Testing, Claiming, Claimed, Withdrawing, Entering, Filling, Filled, Entered, Ready, Compared, Fetching, Opened, Copying, Copied, Current, Making, Setting, Soiling, Giving, Checking, Drawing, Timed, Flushing, Stamping, Posting, Telling, Lowering, Untwining, Unlisting, Done, Judging, Unmapping, Emptied, Leaving, Over as Done_with, Round, Work, Off, On, Gone, registered, found, held_alone, departed, lowered}
+use Rattle.dsm_protocol.specs.Rows.{IsPlain, Step, Wins, Slip, Noted, loads, stores, sees_dir, seeks, settles, clears, registers, shares, wants, parts, looks, reads_map, marks, saves, saves_twin, saves_home, twins_broken, breaks, departs, sees_again, tests, claims, looks_again, withdraws, draws_enter, fills, fills_own, stamps_enter, enters, compares, judges, draws, sees_twin, copies, copies_over, merges, merges_own, merges_twin, stamps, has_twin, makes, makes_twin, made, sets, gives, sees_release, lasts, draws_send, tests_flush, flushes, flushes_same, flushes_twin, flushes_home, stamps_flush, reads_dir, posts, lowers, drops, untwins, unlists, finishes, sees_acquire, compares_own, judges_own, unmaps, empties, sees_bare, leaves, gives_over, draws_release, collects, drains, draws_notice, notices, flags, gives_notices, takes, seeks_holder, stops, accesses, waits, tells, finished, ends, halts, shared, unwanted, marked, claimed, at_home, read_only, flushed_all, unsent, posted, untold, unlowered, dropped, emptied, clean, released, unheard, heard, flagged, next_node, drained, taken, passed_over, closing, unclosing, unheld, closed, faults, visits, returns, releases, hears, acquires, closes, maps, soils, cleans, joins, appends_load, appends_store, goes, moves, passes, acquired, begins_copy, begins_fill, fetched, filled, broken, broadcast, sent, told, counts}
+use Rattle.dsm_protocol.specs.Standing.{Works, Makes as Making_by, Takes, Marks as Marking_by, Asks as Asking, Slips, Rests, Asides, Begins, Ends}
+use Rattle.dsm_protocol.proofs.Placed.{IsPlaced, placed}
+use Rattle.dsm_protocol.proofs.Righting.{IsStuck, stuck, some_rest, same_rest, bare, none_allowed}
+use Rattle.dsm_protocol.proofs.Faulting.{fault_typed}
+use Rattle.dsm_protocol.proofs.Releasing.{release_typed}
+use Rattle.dsm_protocol.proofs.Acquiring.{acquire_typed, closing_typed}
 
 -- an item that is no frame's word
 abbrev pub IsAside : Item → Type 0
@@ -39,293 +41,298 @@ pub data OffFrames (rest : Job) : Job → Type 0 where
   Marks : (n : Note) (j : Job) → IsSilent n → OffFrames rest j → OffFrames rest (Mark n j)
   Asks : {f : Own → Job} → ((o : Own) → OffFrames rest (f o)) → OffFrames rest (Ask f)
 
--- so does a phase, and its result is as said
-abbrev pub Avoids : {R : Type 0} → (R → Type 0) → Script R → Type 0
-Avoids Q (End r) = Q r
-Avoids Q (Do a k) = IsAside (item_of a) × ((x : ℕ) → Avoids Q (k x))
-Avoids Q (Until a wanted s) = IsAside (item_of a) × Avoids Q s
-
--- nothing is said of the result
-abbrev pub Any : {R : Type 0} → R → Type 0
-Any r = Unit {0}
-
 -- the only node
 pub record IsAlone (u : Who) : Type 0 where
+  pub place : IsPlaced u
   pub node : node_of u ≡ 0
   pub nodes : u.lay.nodes ≡ 1
 
 pub is_alone : (u : Who) → u.p < processors u.lay → u.lay.nodes ≡ 1 → IsAlone u
-is_alone u p one = let all : u.lay.nodes * u.lay.procs ≡ 1 * u.lay.procs = ap (λ n. n * u.lay.procs) one in record { node = div-eq_of_lt (omega (arith, p, all)); nodes = one }
+is_alone u p one = let all : u.lay.nodes * u.lay.procs ≡ 1 * u.lay.procs = ap (λ n. n * u.lay.procs) one in record { place = placed u p; node = div-eq_of_lt (omega (arith, p, all)); nodes = one }
 
-either_avoids : {R : Type 0} (Q : R → Type 0) (s t : Script R) (c : Bool) → Avoids Q s → Avoids Q t → Avoids Q (if c then s else t)
-either_avoids Q s t true x y = x
-either_avoids Q s t false x y = y
+-- A stage that one node comes to: the home and each node are number 0, and no word is copied.
+abbrev IsNear : Cause → Type 0
+IsNear (Fault write h busy) = h ≡ 0
+IsNear Closing = Unit {0}
 
--- Phases.
+abbrev Seeks_near : Seeker → Type 0
+Seeks_near (For_closing j) = j ≡ 0
+Seeks_near a = Unit {0}
 
-sharers_avoid : (n g m k : ℕ) (row : Row) → Avoids Any (sharers_from n g m k row)
-sharers_avoid n g m zero row = tt
-sharers_avoid n g m (suc k) row = (tt, λ v. sharers_avoid n g (m + 1) k (row_with n m v row))
+abbrev IsApart : Stage → Type 0
+IsApart (Mapped k s) = IsApart s
+IsApart (Seeking a) = Seeks_near a
+IsApart (Missing a) = Seeks_near a
+IsApart (Clearing write h) = h ≡ 0
+IsApart (Registering write h) = h ≡ 0
+IsApart (Sharing write h j row) = h ≡ 0
+IsApart (Wanting write h busy) = h ≡ 0
+IsApart (Parting write h busy) = h ≡ 0
+IsApart (Visiting write h busy j) = h ≡ 0
+IsApart (Looking c j) = IsNear c × (j ≡ 0)
+IsApart (Breaking c h j q) = IsNear c × (j ≡ 0) × (h ≡ 0)
+IsApart (Marking c h j q) = IsNear c × (j ≡ 0) × (h ≡ 0)
+IsApart (Saving c h j i part) = ⊥
+IsApart (Ending c j) = IsNear c
+IsApart (Broken c j) = IsNear c
+IsApart (Broadcast c j) = IsNear c
+IsApart (Parted c j) = IsNear c
+IsApart (Back write h) = h ≡ 0
+IsApart (Testing h) = h ≡ 0
+IsApart (Claiming h) = h ≡ 0
+IsApart (Claimed h j row) = h ≡ 0
+IsApart (Withdrawing h) = h ≡ 0
+IsApart (Entering h) = ⊥
+IsApart (Filling h t i part) = ⊥
+IsApart (Filled t) = ⊥
+IsApart (Ready write h) = h ≡ 0
+IsApart (Compared write h y) = ⊥
+IsApart (Fetching write h) = ⊥
+IsApart (Opened write h t) = ⊥
+IsApart (Copying write h t twin i part) = ⊥
+IsApart (Copied write h t) = ⊥
+IsApart (Current write h) = ⊥
+IsApart (Making i part) = ⊥
+IsApart (Checking h) = h ≡ 0
+IsApart (Drawing h) = h ≡ 0
+IsApart (Timed h t) = ⊥
+IsApart (Flushing h t i part) = ⊥
+IsApart s = Unit {0}
 
-leave_avoids : (n g q k : ℕ) (free : Bool) → Avoids Any (leave_from n g q k free)
-leave_avoids n g q zero free = either_avoids Any (leave_end n g) (End false) free (tt, λ v. either_avoids Any (Do (Put (Dir n g) 0) (λ _. End true)) (End false) (v == 0) (tt, λ x. tt) tt) tt
-leave_avoids n g q (suc k) free = (tt, λ v. leave_avoids n g (q + 1) k (free && v == 0))
+abbrev Stands_apart : Work → Type 0
+Stands_apart (Off r) = Unit {0}
+Stands_apart (On r g s) = IsApart s
+Stands_apart Gone = Unit {0}
 
-drop_twin_avoids : (n g q k : ℕ) (unwritten free : Bool) → Avoids Any (drop_twin_from n g q k unwritten free)
-drop_twin_avoids n g q zero unwritten free =
-    either_avoids Any (drop_twin_end n g free) (End false) unwritten (tt, λ v. either_avoids Any (Do (Put (Dir n g) 0) (λ _. End true)) (End true) free (tt, λ x. tt) tt) tt
-drop_twin_avoids n g q (suc k) unwritten free = (tt, λ v. drop_twin_avoids n g (q + 1) k (unwritten && not (v == 2)) (free && v == 0))
+turn_aside : (turn : TurnId) → IsAside (turn_item turn)
+turn_aside (Page n g) = tt
+turn_aside (Notices n) = tt
 
-post_avoids : (n g h m k c : ℕ) → Avoids Any (post_from n g h m k c)
-post_avoids n g h m zero c = tt
-post_avoids n g h m (suc k) c =
-    let told = post_avoids n g h (m + 1) k (c + 1) in
-    let untold = post_avoids n g h (m + 1) k c in
-    (tt, λ v. either_avoids Any (post_from n g h (m + 1) k c) (Do (Or (Global m n (group_of g)) (bit_of g)) (λ _. post_from n g h (m + 1) k (c + 1))) (v == 0 || m == n || m == h) untold (tt, λ x. told))
+pick : (c : Bool) (s t : Stage) → IsApart s → IsApart t → IsApart (if c then s else t)
+pick true s t x y = x
+pick false s t x y = y
 
-take_avoids : (u : Who) (word : ℕ → Item) → ((k : ℕ) → IsAside (word k)) → Avoids Any (take_pages u.lay word)
-take_avoids u word aside = go 0 (groups u.lay) _
-  where
-    go : (k c : ℕ) (set : List ℕ) → Avoids Any (take_from u.lay word k c set)
-    go k zero set = tt
-    go k (suc c) set = (aside k, λ bits. go (k + 1) c _)
+-- the first alone, where this holds
+chosen : (s t : Stage) (c : Bool) → c ≡ true → IsApart s → IsApart (if c then s else t)
+chosen s t true is x = x
+chosen s t false is x = absurd (cc is)
 
-drain_avoids : (u : Who) (n : ℕ) → Avoids Any (drain_script u.lay n)
-drain_avoids u n = nodes 0 u.lay.nodes
-  where
-    flags : (k bit q c : ℕ) (s : Script (Unit {0})) → Avoids Any s → Avoids Any (flag_from k bit q c s)
-    flags k bit q zero s r = r
-    flags k bit q (suc c) s r = (tt, λ x. flags k bit (q + 1) c s r)
+registered_apart : (write : Bool) (h : ℕ) (b : Bool) → h ≡ 0 → IsApart (registered write h b)
+registered_apart write h true is = is
+registered_apart write h false is = is
 
-    heard : (k b : ℕ) (test : Bool) (s : Script (Unit {0})) → Avoids Any s → Avoids Any (if test then hear u.lay n k b s else s)
-    heard k b true s r = (tt, λ t. (tt, λ x. flags k _ (n * u.lay.procs) u.lay.procs s r))
-    heard k b false s r = r
+departed_apart : (r : Round) (g : ℕ) (c : Cause) (j : ℕ) → IsNear c → Stands_apart (departed r g c j)
+departed_apart r g (Fault write h busy) j near = near
+departed_apart r g Closing j near = tt
 
-    hears : (k bits b c : ℕ) (s : Script (Unit {0})) → Avoids Any s → Avoids Any (hear_from u.lay n k bits b c s)
-    hears k bits b zero s r = r
-    hears k bits b (suc c) s r = heard k b (bit_at bits b == 1) (hear_from u.lay n k bits (b + 1) c s) (hears k bits (b + 1) c s r)
-
-    in_groups : (m k c : ℕ) (s : Script (Unit {0})) → Avoids Any s → Avoids Any (drain_groups u.lay n m k c s)
-    in_groups m k zero s r = r
-    in_groups m k (suc c) s r = (tt, λ bits. hears k bits 0 (pages_in u.lay k) (drain_groups u.lay n m (k + 1) c s) (in_groups m (k + 1) c s r))
-
-    nodes : (m c : ℕ) → Avoids Any (drain_from u.lay n m c)
-    nodes m zero = tt
-    nodes m (suc c) = in_groups m 0 (groups u.lay) (drain_from u.lay n (m + 1) c) (nodes (m + 1) c)
-
--- a node breaks a page whose home it is
-break_avoids : (u : Who) (m g h : ℕ) → m ≡ h → Avoids Any (break_script u.lay m g h)
-break_avoids u m g h same = maps (m * u.lay.procs) u.lay.procs
-  where
-    copy : (b : Bool) → b ≡ true → Avoids Any (if b then break_end m g else break_words m g h 0 u.lay.words)
-    copy true is = (tt, λ x. tt)
-    copy false is = absurd (cc is)
-
-    told : (q : ℕ) (b : Bool) (s : Script (Unit {0})) → Avoids Any s → Avoids Any (if b then break_tell g q s else s)
-    told q true s r = (tt, λ x. r)
-    told q false s r = r
-
-    maps : (q k : ℕ) → Avoids Any (each (λ q s. break_map g q s) q k (break_copy u.lay m g h))
-    maps q zero = copy (m == h) (eq-eqb m h same)
-    maps q (suc k) = (tt, λ v. told q (v == 2) (each (λ q s. break_map g q s) (q + 1) k (break_copy u.lay m g h)) (maps (q + 1) k))
+-- protocol work notes no entry
+silent : (last : Job) (n : Note) → IsPlain (Some last) n → IsSilent n
+silent last (Append (Load w v)) plain = plain
+silent last (Append (Store w v)) plain = plain
+silent last (Append e) plain = absurd (some_rest last plain)
+silent last n plain = tt
 
 module _ (u : Who) (one : IsAlone u) where
-  -- the one holder
-  holder_avoids : (g m k : ℕ) → m + k ≤ u.lay.nodes → Avoids (λ h. IfSome h (λ n. n ≡ 0)) (holder_from g m k)
-  holder_avoids g m zero w = tt
-  holder_avoids g m (suc k) w =
-      let first : m ≡ 0 = omega (arith, w, one.nodes) in
-      let later = holder_avoids g (m + 1) k (omega (arith, w)) in
-      (tt, λ v. either_avoids (λ h. IfSome h (λ n. n ≡ 0)) (End (Some m)) (holder_from g (m + 1) k) (v == 2) first later)
+  found_apart : (a : Seeker) (h : ℕ) → h ≡ 0 → Seeks_near a → IsApart (found u a h)
+  found_apart (For_fault write d) h is near = registered_apart write h (d == 0) is
+  found_apart For_release h is near = is
+  found_apart (For_closing j) h is near = (tt, near, is)
 
-  -- the one home
+  alone_apart : (c : Cause) (j : ℕ) → IsNear c → j ≡ 0 → IsApart (held_alone u c j)
+  alone_apart (Fault write h busy) j near is = (near, is, near)
+  alone_apart Closing j near is = is
+
+  lowered_apart : (flushed : Bool) → IsApart (lowered u flushed)
+  lowered_apart true = tt
+  lowered_apart false = tt
+
+  -- the one home, and the one node
   remainder : (x : ℕ) → x % u.lay.nodes ≡ 0
   remainder x = ap (λ n. x % n) one.nodes ∙ mod-one x
 
-  home_avoids : (g : ℕ) → Avoids (λ h. h ≡ 0) (find_home_script u.lay (node_of u) g)
-  home_avoids g = (tt, λ v. go v (v == 0))
-    where
-      new : (x : ℕ) (b : Bool) → (if b then node_of u else (x - 1) % u.lay.nodes) ≡ 0
-      new x true = one.node
-      new x false = remainder (x - 1)
+  settled : (x : ℕ) (b : Bool) → (if b then node_of u else (x - 1) % u.lay.nodes) ≡ 0
+  settled x true = one.node
+  settled x false = remainder (x - 1)
 
-      go : (v : ℕ) (b : Bool) → Avoids (λ h. h ≡ 0) (if b then Do (Change (Home g) 0 (node_of u + 1)) (λ x. End (if x == 0 then node_of u else (x - 1) % u.lay.nodes)) else End ((v - 1) % u.lay.nodes))
-      go v true = (tt, λ x. new x (x == 0))
-      go v false = remainder (v - 1)
+  only : (j : ℕ) → j < u.lay.nodes → j ≡ 0
+  only j below = omega (arith, below, one.nodes)
 
-  -- Sentences, each before some rest.
+  is_home : (h : ℕ) → h ≡ 0 → (node_of u == h) ≡ true
+  is_home h is = eq-eqb (node_of u) h (one.node ∙ sym is)
+
+  away : {h : ℕ} → (node_of u == h) ≡ false → h ≡ 0 → ⊥
+  away {h} far is = let near = is_home h is in cc (far, near)
+
+  row : {maps : List ℕ} {dirty : List Bool} {w : Work} {a : Act} {x : ℕ} {w' : Work} → Step u maps dirty w a x w' → IsWithin u.lay (item_of a) → (IsStuck w' → ⊥) → Stands_apart w → IsAside (item_of a) × Stands_apart w'
+  row (loads e) within on h = absurd (on tt)
+  row (stores e) within on h = absurd (on tt)
+  row (sees_dir {x = x} {write = write}) within on h = (tt, pick (x == 2) (Setting write true) (Seeking (For_fault write x)) tt tt)
+  row (seeks {x = x} {a = a}) within on h = (tt, pick (x == 0) (Missing a) (found u a ((x - 1) % u.lay.nodes)) h (found_apart a _ (remainder (x - 1)) h))
+  row (settles {x = x} {a = a}) within on h = (tt, found_apart a _ (settled x (x == 0)) h)
+  row clears within on h = (tt, h)
+  row registers within on h = (tt, h)
+  row shares within on h = (tt, h)
+  row (wants e) within on h = (tt, h)
+  row parts within on h = (tt, h)
+  row (looks {j = j} {x = x} {c = c}) within on h = (tt, pick (x == 2) (held_alone u c j) (Parted c j) (alone_apart c j h.0 h.1) h.0)
+  row (reads_map {g = g} {h = home} {j = j} {q = q} {x = x} {c = c}) within on h = (tt, pick (x == 2) (Marking c home j q) (Breaking c home j (q + 1)) h h)
+  row (marks from to) within on h = (tt, h)
+  row saves within on h = absurd h
+  row saves_twin within on h = absurd h
+  row saves_home within on h = absurd h
+  row (twins_broken e) within on h = absurd h
+  row breaks within on h = (tt, h)
+  row (departs {j = j} {c = c}) within on h = (tt, departed_apart _ _ c j h)
+  row (sees_again {h = home} {x = x} {write = write}) within on h = (tt, pick (x == 2) (Setting write true) (Ready write home) tt h)
+  row (tests {h = home} {x = x}) within on h = (tt, pick (x == 1) (Ready true home) (Claiming home) h h)
+  row claims within on h = (tt, h)
+  row looks_again within on h = (tt, h)
+  row withdraws within on h = (tt, h)
+  row draws_enter within on h = absurd h
+  row fills within on h = absurd h
+  row fills_own within on h = absurd h
+  row stamps_enter within on h = absurd h
+  row enters within on h = (tt, tt)
+  row (compares e) within on h = absurd (away e h)
+  row judges within on h = absurd h
+  row draws within on h = absurd h
+  row sees_twin within on h = absurd h
+  row copies within on h = absurd h
+  row copies_over within on h = absurd h
+  row merges within on h = absurd h
+  row merges_own within on h = absurd h
+  row merges_twin within on h = absurd h
+  row stamps within on h = absurd h
+  row has_twin within on h = absurd h
+  row makes within on h = absurd h
+  row makes_twin within on h = absurd h
+  row made within on h = absurd h
+  row (sets {write = write} {alone = alone}) within on h = (tt, pick (write && not alone) Soiling Giving tt tt)
+  row gives within on h = (tt, tt)
+  row (sees_release {x = x}) within on h = (tt, pick (x == 2) Done (Seeking For_release) tt tt)
+  row (lasts {t0 = t0} {h = home} {x = x}) within on h = (tt, pick (nat_lt t0 x) (Lowering false) (Drawing home) tt h)
+  row (draws_send {h = home} {x = x}) within on h = (tt, chosen (Stamping home x false) (Timed home x) (node_of u == home) (is_home home h) tt)
+  row (tests_flush e) within on h = absurd h
+  row flushes within on h = absurd h
+  row flushes_same within on h = absurd h
+  row flushes_twin within on h = absurd h
+  row flushes_home within on h = absurd h
+  row stamps_flush within on h = (tt, tt)
+  row (reads_dir {h = home} {j = j} {x = x} {flushed = flushed}) within on h = (tt, pick (x == 0 || j == node_of u || j == home) (Posting home flushed (j + 1)) (Telling home flushed j) tt tt)
+  row (posts v e) within on h = (tt, tt)
+  row (lowers {flushed = flushed} e) within on h = (tt, lowered_apart flushed)
+  row (drops from to) within on h = (tt, tt)
+  row (untwins {free = free}) within on h = (tt, pick free Unlisting Done tt tt)
+  row unlists within on h = (tt, tt)
+  row finishes within on h = (tt, tt)
+  row (sees_acquire {x = x}) within on h = (tt, pick (x == 2) Done_with Judging tt tt)
+  row compares_own within on h = (tt, tt)
+  row (judges_own {y = y} {x = x}) within on h = (tt, pick (y == 0 || nat_lt y x) Unmapping Done_with tt tt)
+  row unmaps within on h = (tt, tt)
+  row (empties from to) within on h = (tt, tt)
+  row (sees_bare {x = x}) within on h = (tt, pick (x == 0) Leaving Done_with tt tt)
+  row leaves within on h = (tt, tt)
+  row gives_over within on h = (tt, tt)
+  row draws_release within on h = (tt, tt)
+  row collects within on h = (tt, tt)
+  row drains within on h = (tt, tt)
+  row (draws_notice e from to) within on h = (tt, tt)
+  row notices within on h = (tt, tt)
+  row (flags e from to) within on h = (tt, tt)
+  row gives_notices within on h = (tt, tt)
+  row takes within on h = (tt, tt)
+  row (seeks_holder {g = g} {j = j} {x = x}) within on h = (tt, tt)
+  row stops within on h = (tt, tt)
+
+  win : {maps : List ℕ} {dirty : List Bool} {w : Work} {turn : TurnId} {w' : Work} → Wins u maps dirty w turn w' → IsWithin u.lay (turn_item turn) → Stands_apart w → Stands_apart w'
+  win (faults e) within h = tt
+  win (visits j a b c) within h = (h, only j within.0)
+  win (returns e) within h = h
+  win (releases e) within h = tt
+  win hears within h = tt
+  win (acquires e) within h = tt
+  win (closes {j = j}) within h = (tt, only j within.0)
+
+  slip : {maps : List ℕ} {dirty : List Bool} {w w' : Work} → Slip u maps dirty w w' → Stands_apart w → Stands_apart w'
+  slip accesses h = tt
+  slip waits h = tt
+  slip tells h = tt
+  slip finished h = tt
+  slip ends h = tt
+  slip halts h = tt
+  slip (shared {h = home} {write = write} {row = row}) h = pick (row.busy == 0) (if write && not row.others then Testing home else Ready write home) (Wanting write home row.busy) (pick (write && not row.others) (Testing home) (Ready write home) h h) h
+  slip (unwanted e) h = h
+  slip (marked {h = home} {j = j} {c = c}) h = chosen (Ending c j) (Saving c home j 0 Whole) (j == home) (eq-eqb j home (h.1 ∙ sym h.2)) h.0
+  slip (claimed {h = home} {row = row}) h = pick row.others (Withdrawing home) (if node_of u == home then Entered else Entering home) h (chosen Entered (Entering home) (node_of u == home) (is_home home h) tt)
+  slip (at_home e) h = tt
+  slip read_only h = absurd h
+  slip flushed_all h = absurd h
+  slip (unsent e) h = tt
+  slip posted h = tt
+  slip (untold e) h = tt
+  slip (unlowered {flushed = flushed} e) h = lowered_apart flushed
+  slip (dropped {unwritten = unwritten} {free = free}) h = pick unwritten (Untwining free) Done tt tt
+  slip (emptied {free = free}) h = pick free Emptied Done_with tt tt
+  slip (clean e) h = tt
+  slip released h = tt
+  slip (unheard e) h = tt
+  slip heard h = tt
+  slip flagged h = tt
+  slip next_node h = tt
+  slip drained h = tt
+  slip taken h = tt
+  slip (passed_over e) h = tt
+  slip closing h = tt
+  slip unclosing h = tt
+  slip unheld h = tt
+  slip closed h = tt
+
+  noted : (last : Job) {w : Work} {n : Note} {w' : Work} → Noted u (Some last) w n w' → Stands_apart w → IsSilent n × Stands_apart w'
+  noted last maps h = (tt, h)
+  noted last soils h = (tt, tt)
+  noted last cleans h = (tt, tt)
+  noted last joins h = (tt, tt)
+  noted last (appends_load e) h = absurd (some_rest last e)
+  noted last (appends_store e) h = absurd (some_rest last e)
+  noted last (gives e) h = absurd (some_rest last e)
+  noted last (goes e) h = absurd (some_rest last e)
+  noted last (moves e) h = absurd (some_rest last e)
+  noted last (passes e) h = absurd (some_rest last e)
+  noted last acquired h = (tt, tt)
+  noted last begins_copy h = absurd h
+  noted last begins_fill h = absurd h
+  noted last fetched h = absurd h
+  noted last filled h = absurd h
+  noted last broken h = (tt, h)
+  noted last broadcast h = (tt, h)
+  noted last (sent e) h = (tt, tt)
+  noted last (told e) h = (tt, tt)
+  noted last (counts {n = n} plain) h = (silent last n plain, h)
+
   module _ (last : Job) where
-    either : {a b : Job} (c : Bool) → OffFrames last a → OffFrames last b → OffFrames last (if c then a else b)
-    either true x y = x
-    either false x y = y
+    off_frames : {w : Work} {o : Own} {j : Job} → Works u (Some last) w o j → Stands_apart w → OffFrames last j
+    off_frames (Making_by within steps k) h = Makes (row (steps 0) within (stuck u last (k 0)) h).0 (λ x. off_frames (k x) (row (steps x) within (stuck u last (k x)) h).1)
+    off_frames (Takes turn within wins k) h = Repeats (turn_aside turn) (off_frames k (win wins within h))
+    off_frames (Marking_by note k) h = let n = noted last note h in Marks _ _ n.0 (off_frames k n.1)
+    off_frames (Asking f) h = Asks (λ o. off_frames (f o) h)
+    off_frames (Slips x k) h = off_frames k (slip x h)
+    off_frames (Rests is resting) h = subst (λ j. OffFrames last j) (same_rest _ _ is) Over
+    off_frames (Asides none is f) h = absurd (some_rest last none)
+    off_frames (Begins none) h = absurd (some_rest last none)
+    off_frames (Ends none) h = absurd (some_rest last none)
 
-    -- the first alone, where this holds
-    chosen : {a : Job} (b : Job) (c : Bool) → c ≡ true → OffFrames last a → OffFrames last (if c then a else b)
-    chosen b true is x = x
-    chosen b false is x = absurd (cc is)
-
-    at_home : (h : ℕ) → h ≡ 0 → (node_of u == h) ≡ true
-    at_home h is = eq-eqb (node_of u) h (one.node ∙ sym is)
-
-    phase : {R : Type 0} {Q : R → Type 0} {f : R → Job} (s : Script R) → Avoids Q s → ((r : R) → Q r → OffFrames last (f r)) → OffFrames last (call s f)
-    phase (End r) av k = k r av
-    phase (Do a c) av k = Makes av.0 (λ x. phase (c x) (av.1 x) k)
-    phase (Until a wanted s) av k = Repeats av.0 (phase s av.1 k)
-
-    counted : {j : Job} (a : Act) → OffFrames last j → OffFrames last (counting a j)
-    counted (Get it) k = k
-    counted (Put it v) k = k
-    counted (Swap it v) k = k
-    counted (Change it old new) k = k
-    counted (Add it v) k = k
-    counted (Or it bits) k = Marks _ _ tt k
-
-    counting_phase : {R : Type 0} {Q : R → Type 0} {f : R → Job} (s : Script R) → Avoids Q s → ((r : R) → Q r → OffFrames last (f r)) → OffFrames last (call_counting s f)
-    counting_phase (End r) av k = k r av
-    counting_phase (Do a c) av k = Makes av.0 (λ x. counted a (counting_phase (c x) (av.1 x) k))
-    counting_phase (Until a wanted s) av k = Repeats av.0 (counting_phase s av.1 k)
-
-    -- page g
-    module _ (g : ℕ) where
-      take : {j : Job} (n : ℕ) → OffFrames last j → OffFrames last (take_job u n g j)
-      take n k = Repeats tt k
-
-      give : {j : Job} (n : ℕ) → OffFrames last j → OffFrames last (give_job n g j)
-      give n k = Makes tt (λ x. k)
-
-      maps : {j : Job} (m : ℕ) → OffFrames last j → OffFrames last (map_job u g m j)
-      maps m k = Makes tt (λ x. Marks _ _ tt k)
-
-      within : {j : Job} (f : Job → Job) (m : ℕ) → OffFrames last (f (give_job m g j)) → OffFrames last (give_job m g j) → OffFrames last (within_turn u m g f j)
-      within f m a b = take m (Makes tt (λ d. either (d == 2) a b))
-
-      alone : {j : Job} (write : Bool) → OffFrames last j → OffFrames last (alone_job u write g j)
-      alone write k = maps _ (Marks _ _ tt (give (node_of u) k))
-
-      soil : {j : Job} (write : Bool) → OffFrames last j → OffFrames last (soil_job write g j)
-      soil true k = Marks _ _ tt k
-      soil false k = k
-
-      shared : {j : Job} (write : Bool) → OffFrames last j → OffFrames last (shared_job u write g j)
-      shared write k = maps _ (Marks _ _ tt (soil write (give (node_of u) k)))
-
-      entered : {j : Job} → OffFrames last j → OffFrames last (entered_job u g j)
-      entered k = Makes tt (λ x. Marks _ _ tt (alone true k))
-
-      -- home h
-      module _ (h : ℕ) (is : h ≡ 0) where
-        breaks : {j : Job} (m : ℕ) → m ≡ 0 → OffFrames last j → OffFrames last (break_job u m g h j)
-        breaks m same k = phase (break_script u.lay m g h) (break_avoids u m g h (same ∙ sym is)) (λ r _. Marks _ _ tt (Marks _ _ tt (Marks _ _ tt k)))
-
-        visit : {j : Job} (m : ℕ) → m ≡ 0 → OffFrames last j → OffFrames last (visit_job u m g h j)
-        visit m same k = within (λ k'. break_job u m g h k') m (breaks m same (give m k)) (give m k)
-
-        visits : {j : Job} (busy m k : ℕ) → m + k ≤ u.lay.nodes → OffFrames last j → OffFrames last (visits_from u g h busy m k j)
-        visits busy m zero w k = k
-        visits busy m (suc c) w k = let later = visits busy (m + 1) c (omega (arith, w)) k in either (is_busy busy m) (visit m (omega (arith, w, one.nodes)) later) later
-
-        share : {j : Job} (write : Bool) → OffFrames last j → OffFrames last (share_job u write g h j)
-        share write k = chosen _ (node_of u == h) (at_home h is) (shared write k)
-
-        enter : {j : Job} → OffFrames last j → OffFrames last (enter_job u g h j)
-        enter k = chosen _ (node_of u == h) (at_home h is) (entered k)
-
-        claim : {j : Job} → OffFrames last j → OffFrames last (claim_job u g h j)
-        claim k = Makes tt (λ x. phase (sharers_script u.lay (node_of u) g) (sharers_avoid _ g 0 u.lay.nodes _) (λ row _. either row.others (Makes tt (λ y. share true k)) (enter k)))
-
-        sole : {j : Job} → OffFrames last j → OffFrames last (sole_job u g h j)
-        sole k = Makes tt (λ x. either (x == 1) (share true k) (claim k))
-
-        visited : {j : Job} (write : Bool) → OffFrames last j → OffFrames last (visited_job u write g h j)
-        visited write k = take (node_of u) (Makes tt (λ d. either (d == 2) (alone write k) (share write k)))
-
-        leaves : {j : Job} (write : Bool) (busy : ℕ) → OffFrames last j → OffFrames last (leave_job u write g h busy j)
-        leaves write busy k = give (node_of u) (visits busy 0 u.lay.nodes (omega arith) (visited write k))
-
-        busies : {j : Job} (write : Bool) (busy : ℕ) → OffFrames last j → OffFrames last (busy_job u write g h busy j)
-        busies write busy k = Asks (λ o. either (mapping o g == 0) (maps 3 (leaves write busy k)) (leaves write busy k))
-
-        seen : {j : Job} (write : Bool) (row : Row) → OffFrames last j → OffFrames last (seen_job u write g h row j)
-        seen write row k = either (row.busy == 0) (either (write && not row.others) (sole k) (share write k)) (busies write row.busy k)
-
-        look_round : {j : Job} (write : Bool) → OffFrames last j → OffFrames last (look_round_job u write g h j)
-        look_round write k = phase (sharers_script u.lay (node_of u) g) (sharers_avoid _ g 0 u.lay.nodes _) (λ row _. seen write row k)
-
-        -- release work on the page
-        drops : {j : Job} (flushed : Bool) → OffFrames last j → OffFrames last (drop_job u g flushed j)
-        drops true k = phase (drop_twin_script u.lay (node_of u) g) (drop_twin_avoids _ g _ u.lay.procs true true) (λ r _. k)
-        drops false k = k
-
-        lower : {j : Job} → OffFrames last j → OffFrames last (lower_job u g j)
-        lower k = Asks (λ o. either (mapping o g == 2) (maps 1 k) k)
-
-        sends : {j : Job} (flushed : Bool) (d : Moment) → OffFrames last j → OffFrames last (sends_job u g h flushed d j)
-        sends flushed d k = either (flushed || node_of u == h) (Marks _ _ tt k) k
-
-        told : {j : Job} (flushed : Bool) → OffFrames last j → OffFrames last (told_job u g h flushed j)
-        told flushed k = sends flushed _ (lower (drops flushed k))
-
-        posts : {j : Job} (flushed : Bool) → OffFrames last j → OffFrames last (post_job u g h flushed j)
-        posts flushed k = counting_phase (post_script u.lay (node_of u) g h) (post_avoids _ g h 0 u.lay.nodes 0) (λ r _. told flushed k)
-
-        sent : {j : Job} (t : ℕ) (flushed : Bool) → OffFrames last j → OffFrames last (sent_job u g h t flushed j)
-        sent t flushed k = Makes tt (λ x. sends flushed _ (posts flushed k))
-
-        send : {j : Job} → OffFrames last j → OffFrames last (send_job u g h j)
-        send k = Makes tt (λ t. chosen _ (node_of u == h) (at_home h is) (sent t false k))
-
-        tells : {j : Job} (t0 : ℕ) → OffFrames last j → OffFrames last (tell_job u t0 g h j)
-        tells t0 k = Makes tt (λ x. either (nat_lt t0 x) (Marks _ _ tt (lower k)) (send k))
-
-      common : {j : Job} (write : Bool) (d : ℕ) → OffFrames last j → OffFrames last (common_job u write g d j)
-      common write d k =
-          phase (find_home_script u.lay (node_of u) g) (home_avoids g) (λ h is. either (d == 0) (Makes tt (λ x. Makes tt (λ y. look_round h is write k))) (look_round h is write k))
-
-      -- a fault
-      pub fault_off : {j : Job} (write : Bool) → OffFrames last j → OffFrames last (fault_job u write g j)
-      fault_off write k = take (node_of u) (Makes tt (λ d. either (d == 2) (alone write k) (common write d k)))
-
-      dones : {j : Job} → OffFrames last j → OffFrames last (done_job u g j)
-      dones k = Makes tt (λ x. Marks _ _ tt k)
-
-      release_on : {j : Job} (t0 : ℕ) → OffFrames last j → OffFrames last (release_page u t0 g j)
-      release_on t0 k = take (node_of u) (Makes tt (λ d. either (d == 2) (dones k) (phase (find_home_script u.lay (node_of u) g) (home_avoids g) (λ h is. tells h is t0 (dones k)))))
-
-      unmap : {j : Job} → OffFrames last j → OffFrames last (unmap_job u g j)
-      unmap k = maps 0 (Marks _ _ tt (phase (leave_script u.lay (node_of u) g) (leave_avoids _ g _ u.lay.procs true) (λ r _. k)))
-
-      checks : {j : Job} → OffFrames last j → OffFrames last (check_job u g j)
-      checks k = Makes tt (λ x. Makes tt (λ y. either (x == 0 || nat_lt x y) (unmap k) k))
-
-      acquire_on : {j : Job} → OffFrames last j → OffFrames last (acquire_page u g j)
-      acquire_on k = take (node_of u) (Makes tt (λ d. either (d == 2) (give (node_of u) k) (checks (give (node_of u) k))))
-
-      close_on : {j : Job} (m : Option ℕ) → IfSome m (λ n. n ≡ 0) → OffFrames last j → OffFrames last (closing_page u g m j)
-      close_on None w k = k
-      close_on (Some m) w k =
-          within (λ k'. call (find_home_script u.lay (node_of u) g) (λ h. break_job u m g h k')) m (phase (find_home_script u.lay (node_of u) g) (home_avoids g) (λ h is. breaks h is m w (give m k))) (give m k)
-
-    releases : {j : Job} (t0 g k : ℕ) → OffFrames last j → OffFrames last (release_from u t0 g k j)
-    releases t0 g zero r = r
-    releases t0 g (suc k) r = let later = releases t0 (g + 1) k r in Asks (λ o. either (is_dirty o g) (release_on g t0 later) later)
+    -- a fault
+    pub fault_off : (write : Bool) (w : ℕ) → page_of u w < u.lay.pages → OffFrames last (fault_job u write (page_of u w) last)
+    fault_off write w inside = off_frames (fault_typed u one.place write w inside bare (none_allowed write) (λ p allowed. Rests refl tt)) tt
 
     -- a release
-    pub release_off : {j : Job} → OffFrames last j → OffFrames last (release_job u j)
-    release_off r = Makes tt (λ t0. phase (take_nle_script u.lay u.p) (take_avoids u (λ k. Nle u.p k) (λ k. tt)) (λ set _. Marks _ _ tt (releases t0 0 u.lay.pages r)))
-
-    acquires : {j : Job} (set : List ℕ) (g k : ℕ) → OffFrames last j → OffFrames last (acquire_from u set g k j)
-    acquires set g zero r = Marks _ _ tt r
-    acquires set g (suc k) r = let later = acquires set (g + 1) k r in Asks (λ o. either (has_page set g && not (mapping o g == 0)) (acquire_on g later) later)
+    pub release_off : OffFrames last (release_job u last)
+    release_off = off_frames (release_typed u one.place bare (λ p. Rests refl tt)) tt
 
     -- an acquire
-    pub acquire_off : {j : Job} → OffFrames last j → OffFrames last (acquire_job u j)
-    acquire_off r =
-        Repeats tt (phase (drain_script u.lay (node_of u)) (drain_avoids u (node_of u)) (λ x _. Makes tt (λ y. phase (take_own_script u.lay u.p) (take_avoids u (λ k. OwnWord u.p k) (λ k. tt)) (λ set _. acquires set 0 u.lay.pages r))))
-
-    closes : {j : Job} (g k : ℕ) → OffFrames last j → OffFrames last (closing_from u g k j)
-    closes g zero r = r
-    closes g (suc k) r = let later = closes (g + 1) k r in phase (holder_script u.lay g) (holder_avoids g 0 u.lay.nodes (omega arith)) (λ m is. close_on g m is later)
+    pub acquire_off : OffFrames last (acquire_job u last)
+    acquire_off = off_frames (acquire_typed u one.place bare (λ p. Rests refl tt)) tt
 
     -- the closing work
-    pub closing_off : {j : Job} → OffFrames last j → OffFrames last (closing_job u j)
-    closing_off r = either (u.p == 0) (closes 0 u.lay.pages r) r
+    pub closing_off : OffFrames last (closing_job u last)
+    closing_off = off_frames (closing_typed u one.place bare (λ p. Rests refl tt)) tt

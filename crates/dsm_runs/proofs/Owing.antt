@@ -36,8 +36,8 @@ use Rattle.dsm_protocol.specs.Steps.{address_item, next_instruction, release_job
 use Rattle.dsm_protocol.specs.declared.counts.Counts.{Counts}
 use Rattle.dsm_protocol.specs.Rights.{Rights, Legal, IsInner, May, Plain, Maps, Gives, Works, Over, Makes, Takes, Marks_map, Marks, Asks}
 use Rattle.dsm_protocol.proofs.Keeping.{with_others}
-use Rattle.dsm_protocol.proofs.Phases.{placed as is_placed}
-use Rattle.dsm_protocol.proofs.Working.{fault_works, release_works, acquire_works, closing_works}
+use Rattle.dsm_protocol.proofs.Placed.{placed as is_placed}
+use Rattle.dsm_protocol.proofs.Righting.{fault_works, release_works, acquire_works, closing_works}
 use Rattle.dsm_protocol.proofs.Inside.{page_in}
 use Rattle.dsm_clock.specs.declared.turns.TurnId.{TurnId}
 use Rattle.dsm_clock.specs.declared.turns.TurnId.TheVariants.{Page, Notices}
@@ -243,17 +243,17 @@ module _ (u : Who) where
 -- the sentences of what a processor does
 module _ (u : Who) (p_in : u.p < processors u.lay) where
   release_syncs : (o : Own) (d : Option (Act × ℕ)) (j : Job) → Rests u d → Later u o j → Syncs u o d (release_job u j)
-  release_syncs o d j rests k = works_sync u p_in (release_works u j (is_placed u p_in) Over) o d rests k
+  release_syncs o d j rests k = works_sync u p_in (release_works u j (is_placed u p_in)) o d rests k
 
   acquire_syncs : (o : Own) (d : Option (Act × ℕ)) (j : Job) → Rests u d → Later u o j → Syncs u o d (acquire_job u j)
-  acquire_syncs o d j rests k = works_sync u p_in (acquire_works u j (is_placed u p_in) Over) o d rests k
+  acquire_syncs o d j rests k = works_sync u p_in (acquire_works u j (is_placed u p_in)) o d rests k
 
   closing_syncs : (o : Own) (d : Option (Act × ℕ)) (j : Job) → Rests u d → Later u o j → Syncs u o d (closing_job u j)
-  closing_syncs o d j rests k = works_sync u p_in (closing_works u j (is_placed u p_in) Over) o d rests k
+  closing_syncs o d j rests k = works_sync u p_in (closing_works u j (is_placed u p_in)) o d rests k
 
   access_syncs : (o : Own) (d : Option (Act × ℕ)) (write : Bool) (w : ℕ) (j : Job) (b : Bool) → w < u.lay.pages * u.lay.words → Rests u d → Later u o j → Syncs u o d (if b then j else fault_job u write (page_of u w) j)
   access_syncs o d write w j true inside rests k = k d rests o.maps o.dirty o.counts
-  access_syncs o d write w j false inside rests k = works_sync u p_in (fault_works u j (is_placed u p_in) (page_of u w) (page_in u.lay.pages u.lay.words w inside) write Over) o d rests k
+  access_syncs o d write w j false inside rests k = works_sync u p_in (fault_works u j (is_placed u p_in) write w (page_in u.lay.pages u.lay.words w inside)) o d rests k
 
   syncs_heed : (o : Own) (again : Head) (x : ℕ) → IsReady u o again → Syncs u o (Some (Get Stop, x)) (heed_job again x)
   syncs_heed o again x ready = go (x == 0)

@@ -19,7 +19,7 @@ use Rattle.dsm_protocol.specs.Own.{Own, Who, new_own}
 use Rattle.dsm_protocol.specs.Jobs.{Job, Make, Again, Mark, Ask, Begin, Ended, first_act, job_after, has_ended, held_turn}
 use Rattle.dsm_protocol.specs.Steps.{starved_job}
 use Rattle.dsm_protocol.specs.Processors.{Processor, run_on, new_processor, wanting}
-use Rattle.dsm_protocol.proofs.Phases.{placed}
+use Rattle.dsm_protocol.proofs.Placed.{placed}
 use Rattle.dsm_runs.specs.Setups.{Setup, IsSetup, lay_in, who_at}
 use Rattle.dsm_runs.specs.Clusters.{Cluster, Event, stays, start, answer, act_in, moved, after_loose, after_all_loose}
 use Rattle.dsm_runs.specs.Turning.{MapsAreItsOwn, MapsAreStoredByTheirOwn, HoldsItsTurn, TriesHoldingNone, IsHeld, EachTurnIsHeld, CanGoOn, NoCircle}

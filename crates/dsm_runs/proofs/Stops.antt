@@ -16,7 +16,7 @@ use Rattle.dsm_protocol.specs.Own.{Who, new_own}
 use Rattle.dsm_protocol.specs.Jobs.{Job, Make, Again, Mark, Ask, Begin, Ended, first_act, job_after, has_ended, end_of, is_ready}
 use Rattle.dsm_protocol.specs.declared.head.Head.TheVariants.{Instruction}
 use Rattle.dsm_protocol.specs.Processors.{Processor, wanting, after_answer, run_on, new_processor}
-use Rattle.dsm_protocol.proofs.Phases.{placed}
+use Rattle.dsm_protocol.proofs.Placed.{placed}
 use Rattle.dsm_runs.specs.Setups.{Setup, lay_in, who_at}
 use Rattle.dsm_runs.specs.Clusters.{Cluster, Event, stays, start, answer, act_in, moved, after_loose, after_all_loose}
 use Rattle.dsm_runs.proofs.Alive.{alive, wanting_is}

@@ -25,8 +25,8 @@ use Rattle.dsm_protocol.specs.declared.head.Head.TheVariants.{Instruction, Locki
 use Rattle.dsm_protocol.specs.Steps.{action_job, stop_job, head_job, unready_job, heed_job, look_job, lock_job, arrive_job, set_job, is_last, passed_job, tried_job, looked_job, next_instruction, acquire_job, release_job, fault_job, allows, page_of, load_job, store_job, free_job, meet_job, raise_job}
 use Rattle.dsm_protocol.specs.Processors.{settled, run_on}
 use Rattle.dsm_protocol.specs.Rights.{Rights, Legal, May, Plain, Maps, Gives, Works, Over, Makes, Takes, Marks_map, Marks, Asks}
-use Rattle.dsm_protocol.proofs.Phases.{IsPlaced}
-use Rattle.dsm_protocol.proofs.Working.{fault_works, release_works, acquire_works, closing_works}
+use Rattle.dsm_protocol.proofs.Placed.{IsPlaced}
+use Rattle.dsm_protocol.proofs.Righting.{fault_works, release_works, acquire_works, closing_works}
 use Rattle.dsm_local.proofs.Inside.{IsInside-next_action}
 use Rattle.dsm_protocol.proofs.Inside.{page_in}
 use Rattle.dsm_clock.specs.declared.turns.TurnId.{TurnId}
@@ -128,14 +128,14 @@ works_heeds u (Asks f) d k = λ o. works_heeds u (f o) d k
 
 module _ (u : Who) (at : IsPlaced u) where
   acquire_heeds : (d : Option ℕ) → Heeds u.p d (acquire_job u next_instruction)
-  acquire_heeds d = works_heeds u (acquire_works u next_instruction at Over) d (λ e. tt)
+  acquire_heeds d = works_heeds u (acquire_works u next_instruction at) d (λ e. tt)
 
   release_heeds : (d : Option ℕ) (j : Job) → ((e : Option ℕ) → Heeds u.p e j) → Heeds u.p d (release_job u j)
-  release_heeds d j k = works_heeds u (release_works u j at Over) d k
+  release_heeds d j k = works_heeds u (release_works u j at) d k
 
   access_heeds : (d : Option ℕ) (write : Bool) (w : ℕ) (j : Job) (b : Bool) → w < u.lay.pages * u.lay.words → ((e : Option ℕ) → Heeds u.p e j) → Heeds u.p d (if b then j else fault_job u write (page_of u w) j)
   access_heeds d write w j true inside k = k d
-  access_heeds d write w j false inside k = works_heeds u (fault_works u j at (page_of u w) (page_in u.lay.pages u.lay.words w inside) write Over) d k
+  access_heeds d write w j false inside k = works_heeds u (fault_works u j at write w (page_in u.lay.pages u.lay.words w inside)) d k
 
   tried_heeds : (d : Option ℕ) (l : ℕ) (got : Got) → Heeds u.p d (tried_job u l got)
   tried_heeds d l (Ready c) = acquire_heeds d
@@ -155,7 +155,7 @@ module _ (u : Who) (at : IsPlaced u) where
   passed_heeds : (d : Option ℕ) (of : Counter) → Heeds u.p d (passed_job u of)
   passed_heeds d (Barrier b) = acquire_heeds d
   passed_heeds d (Flag f) = acquire_heeds d
-  passed_heeds d Close = works_heeds u (closing_works u (Ended Halted) at Over) d (λ e. tt)
+  passed_heeds d Close = works_heeds u (closing_works u (Ended Halted) at) d (λ e. tt)
 
   look_heeds : (d : Option ℕ) (of : Counter) (need : ℕ) → Heeds u.p d (look_job u of need)
   look_heeds d of need = (tt, λ v. found v (loaded (Get (counter_item of)) v) (nat_le need v))

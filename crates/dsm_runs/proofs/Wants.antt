@@ -23,8 +23,8 @@ use Rattle.dsm_protocol.specs.declared.head.Head.TheVariants.{Instruction, Locki
 use Rattle.dsm_protocol.specs.Steps.{action_job, stop_job, head_job, unready_job, heed_job, look_job, lock_job, is_last, passed_job, tried_job, looked_job, next_instruction, acquire_job, fault_job, allows, page_of, load_job, store_job, free_job, meet_job, raise_job}
 use Rattle.dsm_protocol.specs.Processors.{Processor, settled, run_on, ending, after_answer, wanting, new_processor}
 use Rattle.dsm_protocol.specs.Rights.{Works, Over, Makes, Takes, Marks_map, Marks, Asks}
-use Rattle.dsm_protocol.proofs.Phases.{IsPlaced, placed}
-use Rattle.dsm_protocol.proofs.Working.{fault_works, release_works, acquire_works, closing_works}
+use Rattle.dsm_protocol.proofs.Placed.{IsPlaced, placed}
+use Rattle.dsm_protocol.proofs.Righting.{fault_works, release_works, acquire_works, closing_works}
 use Rattle.dsm_local.proofs.Inside.{IsInside-next_action}
 use Rattle.dsm_protocol.proofs.Inside.{page_in}
 use Rattle.dsm_clock.specs.declared.turns.TurnId.{TurnId}
@@ -75,11 +75,11 @@ works_wants u (Asks f) k = λ o. works_wants u (f o) k
 
 module _ (u : Who) (at : IsPlaced u) where
   acquire_wants : WantsNothing (acquire_job u next_instruction)
-  acquire_wants = works_wants u (acquire_works u next_instruction at Over) tt
+  acquire_wants = works_wants u (acquire_works u next_instruction at) tt
 
   access_wants : (write : Bool) (w : ℕ) (j : Job) (b : Bool) → w < u.lay.pages * u.lay.words → WantsNothing j → WantsNothing (if b then j else fault_job u write (page_of u w) j)
   access_wants write w j true inside k = k
-  access_wants write w j false inside k = works_wants u (fault_works u j at (page_of u w) (page_in u.lay.pages u.lay.words w inside) write Over) k
+  access_wants write w j false inside k = works_wants u (fault_works u j at write w (page_in u.lay.pages u.lay.words w inside)) k
 
   tried_wants : (l : ℕ) (got : Got) → WantsNothing (tried_job u l got)
   tried_wants l (Ready c) = acquire_wants
@@ -99,7 +99,7 @@ module _ (u : Who) (at : IsPlaced u) where
   passed_wants : (of : Counter) → WantsNothing (passed_job u of)
   passed_wants (Barrier b) = acquire_wants
   passed_wants (Flag f) = acquire_wants
-  passed_wants Close = works_wants u (closing_works u (Ended Halted) at Over) tt
+  passed_wants Close = works_wants u (closing_works u (Ended Halted) at) tt
 
   look_wants : (of : Counter) (need : ℕ) → WantsNothing (look_job u of need)
   look_wants of need v = found (nat_le need v)
@@ -115,13 +115,13 @@ module _ (u : Who) (at : IsPlaced u) where
   action_wants o (StoreWord w v) inside = access_wants true w (store_job u w v) (allows true (mapping o (page_of u w))) inside (λ x. tt)
   action_wants o (Print v) inside = λ x. tt
   action_wants o (TakeLock l) inside = lock_wants l
-  action_wants o (GiveLock l k) inside = works_wants u (release_works u (free_job l k) at Over) (λ x. tt)
-  action_wants o (Meet b) inside = works_wants u (release_works u (meet_job u (Barrier b)) at Over) (λ x. tt)
-  action_wants o (RaiseFlag f) inside = works_wants u (release_works u (raise_job f) at Over) (λ x. tt)
+  action_wants o (GiveLock l k) inside = works_wants u (release_works u (free_job l k) at) (λ x. tt)
+  action_wants o (Meet b) inside = works_wants u (release_works u (meet_job u (Barrier b)) at) (λ x. tt)
+  action_wants o (RaiseFlag f) inside = works_wants u (release_works u (raise_job f) at) (λ x. tt)
   action_wants o (WaitFlag f need) inside = look_wants (Flag f) need
   action_wants o (Trap kind) inside = λ x. tt
   action_wants o Spend inside = λ x. tt
-  action_wants o Arrive inside = works_wants u (release_works u (meet_job u Close) at Over) (λ x. tt)
+  action_wants o Arrive inside = works_wants u (release_works u (meet_job u Close) at) (λ x. tt)
 
   head_wants : (code : List Instr) (h : Head) → WantsNothing (head_job u code h)
   head_wants code Instruction = λ o. action_wants o (next_action code (setting_of u) o.reader) (IsInside-next_action code (setting_of u) o.reader)

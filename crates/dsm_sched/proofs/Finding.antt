@@ -1,5 +1,5 @@
 -- The first processor of a list that has not ended.
-use Rattle.std.proofs.Common.{◌≡◌, ◌⊎◌, inl, inr, ℕ, zero, suc, ◌+◌, ◌-◌, ◌<◌, ◌≤◌, Bool, true, false, List, [], ◌∷◌, ◌++◌, length, map, get_or, Option, Some, None, refl, sym, ap, ◌∙◌, subst, arith, if◌then◌else◌}
+use Rattle.std.proofs.Common.{◌≡◌, ◌⊎◌, inl, inr, ℕ, zero, suc, ◌+◌, ◌-◌, ◌<◌, ◌≤◌, Bool, true, false, List, [], ◌∷◌, length, map, get_or, Option, Some, None, refl, sym, ap, ◌∙◌, subst, arith, if◌then◌else◌}
 use Rattle.std.specs.Prelude.{slice_get, slice_index_or, not, is_some, All, Contains, IsTrue}
 use Rattle.std.specs.List.{range_with_len}
 use Rattle.std.proofs.lemmas.List.Elements.{All-nil, All-cons, All-tail, Contains-append_left, Contains-append_right}
@@ -46,23 +46,6 @@ none_found c (q ∷ ps) all = go (may_go false (slice_get c.processors q)) refl 
     go : (b : Bool) → may_go false (slice_get c.processors q) ≡ b → first_running c ps ≡ None → (if b then Some q else first_running c ps) ≡ None
     go true is rest = absurd (ended (slice_get c.processors q) refl is)
     go false is rest = rest
-
--- first in one list, and then in another
-pub then_found : (c : Cluster) (ps qs : List ℕ) → first_running c ps ≡ None → first_running c (ps ++ qs) ≡ first_running c qs
-then_found c [] qs h = refl
-then_found c (q ∷ ps) qs h = go (may_go false (slice_get c.processors q)) (then_found c ps qs) h
-  where
-    go : (b : Bool) → (first_running c ps ≡ None → first_running c (ps ++ qs) ≡ first_running c qs) → (if b then Some q else first_running c ps) ≡ None → (if b then Some q else first_running c (ps ++ qs)) ≡ first_running c qs
-    go true rest e = absurd (cc e)
-    go false rest e = rest e
-
-pub soon_found : (c : Cluster) (ps qs : List ℕ) (p : ℕ) → first_running c ps ≡ Some p → first_running c (ps ++ qs) ≡ Some p
-soon_found c [] qs p h = absurd (cc h)
-soon_found c (q ∷ ps) qs p h = go (may_go false (slice_get c.processors q)) (soon_found c ps qs p) h
-  where
-    go : (b : Bool) → (first_running c ps ≡ Some p → first_running c (ps ++ qs) ≡ Some p) → (if b then Some q else first_running c ps) ≡ Some p → (if b then Some q else first_running c (ps ++ qs)) ≡ Some p
-    go true rest e = e
-    go false rest e = rest e
 
 -- a number of a range is in it
 in_range : (a n p : ℕ) → a ≤ p → p < a + n → Contains (range_with_len a n) p
@@ -141,14 +124,3 @@ end_says c p r runs at is =
     twice : (b : Bool) → not (not b) ≡ b
     twice true = refl
     twice false = refl
-
-range_more : (p to : ℕ) → p < to → range_with_len p (to - p) ≡ p ∷ range_with_len (p + 1) (to - (p + 1))
-range_more p to low = ap (range_with_len p) (let z : to - p ≡ suc (to - (p + 1)) = omega arith in z)
-
--- a search from p on ends at p, where p may go on
-pub found_here : (c : Cluster) (p to : ℕ) → p < to → may_go false (slice_get c.processors p) ≡ true → first_running c (range_with_len p (to - p)) ≡ Some p
-found_here c p to low goes = ap (first_running c) (range_more p to low) ∙ ap (λ b. if b then Some p else first_running c (range_with_len (p + 1) (to - (p + 1)))) goes
-
--- and else goes on behind it
-pub not_here : (c : Cluster) (p to : ℕ) → p < to → may_go false (slice_get c.processors p) ≡ false → first_running c (range_with_len p (to - p)) ≡ first_running c (range_with_len (p + 1) (to - (p + 1)))
-not_here c p to low stays = ap (first_running c) (range_more p to low) ∙ ap (λ b. if b then Some p else first_running c (range_with_len (p + 1) (to - (p + 1)))) stays

@@ -1,6 +1,7 @@
 -- What follows of a schedule.
 use Rattle.std.proofs.Common.{◌≡◌, ◌⊎◌, inl, inr, ℕ, zero, suc, ◌+◌, ◌-◌, ◌*◌, ◌<◌, ◌≤◌, Bool, true, false, List, [], ◌∷◌, ◌++◌, length, Some, None, refl, sym, ap, ◌∙◌, subst, arith, length-append}
 use Rattle.std.specs.Prelude.{Contains}
+use Rattle.std.specs.List.{range_with_len}
 use Rattle.std.proofs.lemmas.List.Elements.{Contains-push, Contains-push_cases, Contains-append_left}
 use Rattle.std.proofs.lemmas.Option.{slice_get_within}
 use Rattle.dsm_runs.specs.Setups.{Setup}
@@ -9,9 +10,10 @@ use Rattle.dsm_core.specs.States.{AllEnded}
 use Rattle.dsm_runs.proofs.Reaching.{length-reached}
 use Rattle.dsm_runs.proofs.Runs.{defined_is}
 use Rattle.dsm_sched.specs.declared.kind.Kind.{Kind}
-use Rattle.dsm_sched.specs.declared.kind.Kind.TheVariants.{Round}
-use Rattle.dsm_sched.specs.Schedules.{cyclic, behind_last, next_by, IsScheduled, Begins, Goes, Schedule, more, events_of}
+use Rattle.dsm_sched.specs.declared.kind.Kind.TheVariants.{Round, Mixed}
+use Rattle.dsm_sched.specs.Schedules.{cyclic, running, word, behind_last, next_by, IsScheduled, Begins, Goes, Schedule, more, events_of}
 use Rattle.dsm_sched.proofs.Finding.{found_goes, none_found}
+use Rattle.dsm_sched.proofs.Choosing.{goes, all_left, none_drawn, drawn_goes}
 
 abbrev pub starving : ℕ → Event
 starving p = record { p = p; starved = true }
@@ -29,12 +31,19 @@ length_one_more es e = omega (arith, length-append es (e ∷ []))
 -- where all have ended no event comes next
 pub none_next : (kind : Kind) (s : Setup) (events : List Event) → AllEnded (reached s events) → next_by kind s events ≡ None
 none_next Round s events all = none_found (reached s events) (cyclic (s.nodes * s.procs) (behind_last 0 events)) all
+none_next (Mixed seed) s events all =
+    let every : List ℕ = range_with_len 0 (length (reached s events).processors) in
+    none_drawn (running (reached s events)) (word seed (length events)) (all_left (reached s events) every (none_found (reached s events) every all))
 
--- the one whose event comes next is one that there is
+-- the one whose event comes next has not ended
+pub next_goes : (kind : Kind) (s : Setup) (events : List Event) (p : ℕ) → next_by kind s events ≡ Some p → goes (reached s events) p ≡ true
+next_goes Round s events p h = found_goes (reached s events) (cyclic (s.nodes * s.procs) (behind_last 0 events)) p h
+next_goes (Mixed seed) s events p h = drawn_goes (reached s events) (word seed (length events)) p h
+
+-- so it is one that there is
 pub next_inside : (kind : Kind) (s : Setup) (events : List Event) (p : ℕ) → next_by kind s events ≡ Some p → p < s.nodes * s.procs
-next_inside Round s events p h =
-    let goes = found_goes (reached s events) (cyclic (s.nodes * s.procs) (behind_last 0 events)) p h in
-    let is = defined_is (reached s events) (record { p = p; starved = false }) goes in
+next_inside kind s events p h =
+    let is = defined_is (reached s events) (record { p = p; starved = false }) (next_goes kind s events p h) in
     omega (arith, (length-reached s events).1, slice_get_within (reached s events).processors p is.0 is.1)
 
 -- so each event's is

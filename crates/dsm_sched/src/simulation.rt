@@ -1,10 +1,9 @@
-ghost use Rattle.std.specs.Prelude.{◌≡◌, ◌-◌, ◌<◌, ◌≤◌, List, IfOk, IfSome};
-ghost use Rattle.std.specs.List.{range_with_len};
+ghost use Rattle.std.specs.Prelude.{◌≡◌, ◌<◌, ◌≤◌, List, IfOk, length};
 ghost use Rattle.dsm_isa.specs.declared.instr.Instr.{Instr};
 ghost use Rattle.dsm_words.specs.Place.{lay_of, processors};
 ghost use Rattle.dsm_runs.specs.Clusters.{start};
 ghost use Rattle.dsm_core.specs.States.{setup_of, setup_in, cluster_in, IsFor};
-ghost use Rattle.dsm_sched.specs.Schedules.{cyclic, first_running as first_of, Leads, Simulated};
+ghost use Rattle.dsm_sched.specs.Schedules.{running as running_in_order, Leads, Moves, Simulated};
 
 use crate::kind::Kind;
 use dsm_core::ran::Ran;
@@ -13,6 +12,9 @@ use dsm_entry::entry::NoMemory;
 use dsm_isa::program::Program;
 use dsm_protocol::limits::Limits;
 use dsm_words::topology::Topology;
+use rand_core::SeedableRng;
+use rand_core::utils::NextWord;
+use rand_xoshiro::SplitMix64;
 use std::alloc::Global;
 
 /// What a simulated run leaves.
@@ -36,9 +38,8 @@ pub fn sim(
     ensures { IfOk result (λ x. Simulated kind (setup_of program.now t limits) steps x.ran x.cut) }
 {
     let mut state = State::start(alloc, program, t, limits)?;
-    match kind {
-        Kind::Round => go_round(&mut state, program, steps),
-    }
+    let running = all_running(alloc, &state)?;
+    go(&mut state, program, running, kind, steps);
     let cut = !state.ended();
     Ok(Simmed {
         ran: state.into_ran(alloc)?,
@@ -46,10 +47,39 @@ pub fn sim(
     })
 }
 
-/// Makes `steps` events in cyclic order, or fewer where all processors have ended.
-fn go_round(state: &mut State, program: &Program, steps: u64)
+/// The processors that have not ended, ascending.
+fn all_running(alloc: Global, state: &State) -> Result<Vec<u32>, NoMemory>
+    ensures { (code : List Instr) → IfOk result (λ running. running.items ≡ running_in_order (cluster_in state.now code)) }
+{
+    let mut running = Vec::new(alloc);
+    for p in 0..state.all() {
+        if state.end(p).is_none() {
+            running.push(p)?;
+        }
+    }
+    Ok(running)
+}
+
+/// Makes `steps` events in this order, or fewer where all processors have ended.
+fn go(state: &mut State, program: &Program, running: Vec<u32>, kind: Kind, steps: u64)
     requires is_for { IsFor state.old program.now }
     requires start { cluster_in state.old program.now.code ≡ start (setup_in state.old program.now) }
+    requires running { running.items ≡ running_in_order (cluster_in state.old program.now.code) }
+    ensures setup { setup_in state.new program.now ≡ setup_in state.old program.now }
+    ensures is_for { IsFor state.new program.now }
+    ensures leads { Leads kind (setup_in state.old program.now) steps (cluster_in state.new program.now.code) }
+{
+    match kind {
+        Kind::Round => go_round(state, program, running, steps),
+        Kind::Mixed { seed } => go_mixed(state, program, running, seed, steps),
+    }
+}
+
+/// Makes `steps` events in cyclic order, or fewer where all processors have ended.
+fn go_round(state: &mut State, program: &Program, mut running: Vec<u32>, steps: u64)
+    requires is_for { IsFor state.old program.now }
+    requires start { cluster_in state.old program.now.code ≡ start (setup_in state.old program.now) }
+    requires running { running.items ≡ running_in_order (cluster_in state.old program.now.code) }
     ensures setup { setup_in state.new program.now ≡ setup_in state.old program.now }
     ensures is_for { IsFor state.new program.now }
     ensures leads { Leads Kind.Round (setup_in state.old program.now) steps (cluster_in state.new program.now.code) }
@@ -57,37 +87,62 @@ fn go_round(state: &mut State, program: &Program, steps: u64)
     let mut made = 0;
     let mut from = 0;
     while made < steps {
-        let Some(p) = next_running(state, from) else {
+        if running.is_empty() {
             return;
-        };
-        state.step(program, p);
-        from = p + 1;
+        }
+        let at = in_round(from, running.len());
+        from = step_one(state, program, &mut running, at);
         made += 1;
     }
 }
 
-/// The first processor in cyclic order from `from` on that has not ended.
-fn next_running(state: &State, from: u32) -> Option<u32>
-    requires { from ≤ processors (lay_of state.now.lay) }
-    ensures first { (code : List Instr) → result ≡ first_of (cluster_in state.now code) (cyclic (processors (lay_of state.now.lay)) from) }
-    ensures inside { IfSome result (λ p. p < processors (lay_of state.now.lay)) }
+/// Makes `steps` events in the order that the seed draws, or fewer where all processors have ended.
+fn go_mixed(state: &mut State, program: &Program, mut running: Vec<u32>, seed: u64, steps: u64)
+    requires is_for { IsFor state.old program.now }
+    requires start { cluster_in state.old program.now.code ≡ start (setup_in state.old program.now) }
+    requires running { running.items ≡ running_in_order (cluster_in state.old program.now.code) }
+    ensures setup { setup_in state.new program.now ≡ setup_in state.old program.now }
+    ensures is_for { IsFor state.new program.now }
+    ensures leads { Leads (Kind.Mixed seed) (setup_in state.old program.now) steps (cluster_in state.new program.now.code) }
 {
-    match first_running(state, from, state.all()) {
-        Some(p) => Some(p),
-        None => first_running(state, 0, from),
+    let mut words = SplitMix64::from_seed(seed.to_le_bytes());
+    let mut made = 0;
+    while made < steps {
+        if running.is_empty() {
+            return;
+        }
+        let word = words.next_word();
+        let at = (word % running.len() as u64) as usize;
+        step_one(state, program, &mut running, at);
+        made += 1;
     }
 }
 
-/// The first processor of `from` to `to - 1` that has not ended.
-fn first_running(state: &State, from: u32, to: u32) -> Option<u32>
-    requires { to ≤ processors (lay_of state.now.lay) }
-    ensures first { (code : List Instr) → result ≡ first_of (cluster_in state.now code) (range_with_len from (to - from)) }
-    ensures inside { IfSome result (λ p. p < processors (lay_of state.now.lay)) }
+/// The place in a list of so many that comes next in cyclic order, behind those before `from`.
+fn in_round(from: usize, many: usize) -> usize
+    ensures within { from < many → result ≡ from }
+    ensures first { many ≤ from → result ≡ 0 }
 {
-    for p in from..to {
-        if state.end(p).is_none() {
-            return Some(p);
-        }
+    if from < many { from } else { 0 }
+}
+
+/// Makes the next event of the processor at this place of the list, which leaves the list where it ends. Answers the
+/// place of the one behind it.
+fn step_one(state: &mut State, program: &Program, running: &mut Vec<u32>, at: usize) -> usize
+    requires at { at < length running.old.items }
+    requires is_for { IsFor state.old program.now }
+    requires running { running.old.items ≡ running_in_order (cluster_in state.old program.now.code) }
+    ensures setup { setup_in state.new program.now ≡ setup_in state.old program.now }
+    ensures is_for { IsFor state.new program.now }
+    ensures running { running.new.items ≡ running_in_order (cluster_in state.new program.now.code) }
+    ensures moves { Moves (setup_in state.old program.now) (cluster_in state.old program.now.code) (cluster_in state.new program.now.code) at result }
+{
+    let p = running[at];
+    state.step(program, p);
+    if state.end(p).is_none() {
+        at + 1
+    } else {
+        running.remove(at);
+        at
     }
-    None
 }

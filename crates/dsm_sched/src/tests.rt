@@ -14,9 +14,15 @@ use std::alloc::Global;
 use std::process::Abort;
 use std::test::Fail;
 
-/// What so many events leave of these instructions, where each of so many processors of one node may do ten. There is
-/// one page of one word, one lock and one flag.
-fn simmed(alloc: Global, list: &[Instr], procs: u32, steps: u64) -> Result<Simmed, Fail> {
+/// What so many events leave of these instructions in this order, where each of so many processors of one node may do
+/// ten. There is one page of one word, one lock and one flag.
+fn simmed(
+    alloc: Global,
+    list: &[Instr],
+    procs: u32,
+    kind: Kind,
+    steps: u64,
+) -> Result<Simmed, Fail> {
     let shape = Shape::new(1, 1, 1, 0, 1).ok_or("no shape")?;
     let code = Code::new(list.to_vec(alloc)?)?;
     let program = Program::new(shape, Vec::new(alloc), code).ok_or("no program")?;
@@ -25,7 +31,7 @@ fn simmed(alloc: Global, list: &[Instr], procs: u32, steps: u64) -> Result<Simme
         turns: 10,
         looks: Some(100),
     };
-    Ok(sim(alloc, &program, t, limits, Kind::Round, steps)?)
+    Ok(sim(alloc, &program, t, limits, kind, steps)?)
 }
 
 /// The trace of processor `p` in what was left.
@@ -84,7 +90,7 @@ fn makes_as_many_events_as_allowed(rt: HostRuntime) -> Result<(), Fail> {
         (121, false, halted, halted),
     ];
     for (steps, cut, first, second) in rows {
-        let left = simmed(rt.alloc(), &list, 2, steps)?;
+        let left = simmed(rt.alloc(), &list, 2, Kind::Round, steps)?;
         assert_eq!(rt; left.cut, cut, "after {steps}");
         assert_eq!(rt;
             left.ran.ends.as_slice(),
@@ -92,7 +98,7 @@ fn makes_as_many_events_as_allowed(rt: HostRuntime) -> Result<(), Fail> {
             "after {steps}"
         );
     }
-    let left = simmed(rt.alloc(), &list, 2, 120)?;
+    let left = simmed(rt.alloc(), &list, 2, Kind::Round, 120)?;
     has_trace(&rt, &left.ran, 0, &adds(0));
     has_trace(&rt, &left.ran, 1, &adds(1));
     assert_eq!(rt; left.ran.pages.as_slice(), [2].as_slice());
@@ -121,7 +127,7 @@ fn goes_round(rt: HostRuntime) -> Result<(), Fail> {
         kind: Trap::NotHeld { l: 0 },
     });
     for (steps, cut, last) in [(32, true, None), (33, false, trapped)] {
-        let left = simmed(rt.alloc(), &list, 3, steps)?;
+        let left = simmed(rt.alloc(), &list, 3, Kind::Round, steps)?;
         assert_eq!(rt; left.cut, cut, "after {steps}");
         assert_eq!(rt;
             left.ran.ends.as_slice(),
@@ -139,10 +145,58 @@ fn goes_round(rt: HostRuntime) -> Result<(), Fail> {
 #[test]
 fn is_spent(rt: HostRuntime) -> Result<(), Fail> {
     for (steps, cut, end) in [(10, true, None), (11, false, Some(End::Spent))] {
-        let left = simmed(rt.alloc(), &[Instr::Jmp { to: 0 }], 1, steps)?;
+        let left = simmed(rt.alloc(), &[Instr::Jmp { to: 0 }], 1, Kind::Round, steps)?;
         assert_eq!(rt; left.cut, cut, "after {steps}");
         assert_eq!(rt; left.ran.ends.as_slice(), [end].as_slice(), "after {steps}");
         has_trace(&rt, &left.ran, 0, &[]);
+    }
+    Ok(())
+}
+
+// Eight processors trap in their first event, so the seed's words tell in which order they end: each word draws one of
+// those that are left.
+#[test]
+fn draws_who_comes_next(rt: HostRuntime) -> Result<(), Fail> {
+    let trapped = Some(End::Trapped {
+        at: 0,
+        kind: Trap::NotHeld { l: 0 },
+    });
+    let rows = [
+        (0, [7, 1, 2, 6, 5, 0, 4, 3]),
+        (1, [1, 0, 2, 3, 5, 7, 6, 4]),
+        (258, [4, 3, 5, 2, 1, 6, 7, 0]),
+        (u64::MAX, [0, 2, 3, 5, 6, 4, 7, 1]),
+    ];
+    for (seed, order) in rows {
+        let mut ends = [None; 8];
+        for (i, p) in order.iter().enumerate() {
+            let steps = i as u64;
+            let left = simmed(
+                rt.alloc(),
+                &[Instr::Unlock { l: 0 }],
+                8,
+                Kind::Mixed { seed },
+                steps,
+            )?;
+            assert_eq!(rt; left.cut, true, "seed {seed} after {steps}");
+            assert_eq!(rt;
+                left.ran.ends.as_slice(),
+                ends.as_slice(),
+                "seed {seed} after {steps}"
+            );
+            let p: usize = *p;
+            assert!(rt; p < 8);
+            ends[p] = trapped;
+        }
+        let left = simmed(
+            rt.alloc(),
+            &[Instr::Unlock { l: 0 }],
+            8,
+            Kind::Mixed { seed },
+            8,
+        )?;
+        assert_eq!(rt; left.cut, false, "seed {seed}");
+        assert_eq!(rt; left.ran.ends.as_slice(), ends.as_slice(), "seed {seed}");
     }
     Ok(())
 }

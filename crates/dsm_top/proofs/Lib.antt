@@ -4,3 +4,4 @@ pub mod SettingWords
 pub mod Settings
 pub mod Spelling
 pub mod Words
+pub mod Taking

@@ -7,13 +7,13 @@ use native.Mathlib.Bridge.{le_prop}
 use Rattle.dsm_words.specs.declared.topology.Topology.{Topology}
 use Rattle.dsm_protocol.specs.declared.limits.Limits.{Limits}
 use Rattle.dsm_sched.specs.declared.kind.Kind.{Kind}
-use Rattle.dsm_sched.specs.declared.kind.Kind.TheVariants.{Round}
-use Rattle.dsm_top.specs.declared.plans.Plan.TheVariants.{Check, List as Listing, Sim}
+use Rattle.dsm_top.specs.declared.plans.KindWord.TheVariants.{Round, Mixed}
+use Rattle.dsm_top.specs.declared.plans.Plan.TheVariants.{Check, List as Listing, Sim, Gen}
 use Rattle.dsm_top.specs.declared.plans.Setting.{Setting}
-use Rattle.dsm_top.specs.declared.plans.Setting.TheVariants.{Kind as OfKind, Turns, Looks, Steps, Trace}
-use Rattle.dsm_top.specs.Plans.{topology_word, word_of, IsInRange, AskForSim, AskForOnePlan}
-use Rattle.dsm_top.proofs.Spelling.{no_x, same_behind}
-use Rattle.dsm_top.proofs.Words.{simulation_of}
+use Rattle.dsm_top.specs.declared.plans.Setting.TheVariants.{Kind as OfKind, Seed, Turns, Looks, Steps, Trace}
+use Rattle.dsm_top.specs.Plans.{topology_word, seed_word, word_of, IsInRange, AskForSim, AskForGen, AskForOnePlan}
+use Rattle.dsm_top.proofs.Spelling.{no_x, one_behind}
+use Rattle.dsm_top.proofs.Words.{sim_is_not_gen, simulation_of, generation_of}
 
 -- a cluster is given by its two numbers
 same_topology : (s t : Topology) → s.nodes ≡ t.nodes → s.procs ≡ t.procs → s ≡ t
@@ -50,11 +50,12 @@ topology-word_injective s t same =
     (decimal_injective s.procs t.procs (omega (arith, s.most_procs)) (omega (arith, t.most_procs)) halves.1)
 
 same_number : (name : List ℕ) (m n : ℕ) → m < 2 ^ 64 → n < 2 ^ 64 → name ++ decimal m ≡ name ++ decimal n → m ≡ n
-same_number name m n small less same = decimal_injective m n small less (same_behind (name ++ decimal m) name (decimal m) (decimal n) refl same)
+same_number name m n small less same = one_behind (name ++ decimal m) name m n small less refl same
 
 -- the second byte of a setting's word tells what it sets
 abbrev second_byte : Setting → ℕ
 second_byte (OfKind kind) = 105
+second_byte (Seed n) = 101
 second_byte (Turns n) = 117
 second_byte (Looks n) = 111
 second_byte (Steps n) = 116
@@ -62,6 +63,7 @@ second_byte Trace = 114
 
 second-word : (s : Setting) → get_or (word_of s) 1 0 ≡ second_byte s
 second-word (OfKind kind) = refl
+second-word (Seed n) = refl
 second-word (Turns n) = refl
 second-word (Looks n) = refl
 second-word (Steps n) = refl
@@ -70,9 +72,17 @@ second-word Trace = refl
 same_second : (a b : Setting) → word_of a ≡ word_of b → second_byte a ≡ second_byte b
 same_second a b same = sym (second-word a) ∙ ap (λ w. get_or w 1 0) same ∙ second-word b
 
+-- the first byte behind `kind=` tells which kind
+same_sixth : (a b : Setting) → word_of a ≡ word_of b → get_or (word_of a) 5 0 ≡ get_or (word_of b) 5 0
+same_sixth a b same = ap (λ w. get_or w 5 0) same
+
 -- and a setting is given by its word
 word-injective : (a b : Setting) → IsInRange a → IsInRange b → word_of a ≡ word_of b → a ≡ b
 word-injective (OfKind Round) (OfKind Round) within inside same = refl
+word-injective (OfKind Mixed) (OfKind Mixed) within inside same = refl
+word-injective (OfKind Round) (OfKind Mixed) within inside same = absurd (omega (arith, same_sixth (OfKind Round) (OfKind Mixed) same))
+word-injective (OfKind Mixed) (OfKind Round) within inside same = absurd (omega (arith, same_sixth (OfKind Mixed) (OfKind Round) same))
+word-injective (Seed m) (Seed n) within inside same = ap Seed (same_number (codes "seed" ++ codes "=") m n within inside same)
 word-injective (Turns m) (Turns n) within inside same = ap Turns (same_number (codes "turns" ++ codes "=") m n (omega (arith, within)) (omega (arith, inside)) same)
 word-injective (Looks m) (Looks n) within inside same = ap Looks (same_number (codes "looks" ++ codes "=") m n (omega (arith, within)) (omega (arith, inside)) same)
 word-injective (Steps m) (Steps n) within inside same = ap Steps (same_number (codes "steps" ++ codes "=") m n (omega (arith, within)) (omega (arith, inside)) same)
@@ -81,19 +91,29 @@ word-injective (OfKind k) (Turns n) within inside same = absurd (omega (arith, s
 word-injective (OfKind k) (Looks n) within inside same = absurd (omega (arith, same_second (OfKind k) (Looks n) same))
 word-injective (OfKind k) (Steps n) within inside same = absurd (omega (arith, same_second (OfKind k) (Steps n) same))
 word-injective (OfKind k) Trace within inside same = absurd (omega (arith, same_second (OfKind k) Trace same))
+word-injective (OfKind k) (Seed n) within inside same = absurd (omega (arith, same_second (OfKind k) (Seed n) same))
+word-injective (Seed m) (OfKind j) within inside same = absurd (omega (arith, same_second (Seed m) (OfKind j) same))
+word-injective (Seed m) (Turns n) within inside same = absurd (omega (arith, same_second (Seed m) (Turns n) same))
+word-injective (Seed m) (Looks n) within inside same = absurd (omega (arith, same_second (Seed m) (Looks n) same))
+word-injective (Seed m) (Steps n) within inside same = absurd (omega (arith, same_second (Seed m) (Steps n) same))
+word-injective (Seed m) Trace within inside same = absurd (omega (arith, same_second (Seed m) Trace same))
 word-injective (Turns m) (OfKind j) within inside same = absurd (omega (arith, same_second (Turns m) (OfKind j) same))
 word-injective (Turns m) (Looks n) within inside same = absurd (omega (arith, same_second (Turns m) (Looks n) same))
 word-injective (Turns m) (Steps n) within inside same = absurd (omega (arith, same_second (Turns m) (Steps n) same))
 word-injective (Turns m) Trace within inside same = absurd (omega (arith, same_second (Turns m) Trace same))
+word-injective (Turns m) (Seed n) within inside same = absurd (omega (arith, same_second (Turns m) (Seed n) same))
 word-injective (Looks m) (OfKind j) within inside same = absurd (omega (arith, same_second (Looks m) (OfKind j) same))
 word-injective (Looks m) (Turns n) within inside same = absurd (omega (arith, same_second (Looks m) (Turns n) same))
 word-injective (Looks m) (Steps n) within inside same = absurd (omega (arith, same_second (Looks m) (Steps n) same))
 word-injective (Looks m) Trace within inside same = absurd (omega (arith, same_second (Looks m) Trace same))
+word-injective (Looks m) (Seed n) within inside same = absurd (omega (arith, same_second (Looks m) (Seed n) same))
 word-injective (Steps m) (OfKind j) within inside same = absurd (omega (arith, same_second (Steps m) (OfKind j) same))
 word-injective (Steps m) (Turns n) within inside same = absurd (omega (arith, same_second (Steps m) (Turns n) same))
 word-injective (Steps m) (Looks n) within inside same = absurd (omega (arith, same_second (Steps m) (Looks n) same))
 word-injective (Steps m) Trace within inside same = absurd (omega (arith, same_second (Steps m) Trace same))
+word-injective (Steps m) (Seed n) within inside same = absurd (omega (arith, same_second (Steps m) (Seed n) same))
 word-injective Trace (OfKind j) within inside same = absurd (omega (arith, same_second Trace (OfKind j) same))
+word-injective Trace (Seed n) within inside same = absurd (omega (arith, same_second Trace (Seed n) same))
 word-injective Trace (Turns n) within inside same = absurd (omega (arith, same_second Trace (Turns n) same))
 word-injective Trace (Looks n) within inside same = absurd (omega (arith, same_second Trace (Looks n) same))
 word-injective Trace (Steps n) within inside same = absurd (omega (arith, same_second Trace (Steps n) same))
@@ -113,13 +133,35 @@ words-injective (x ∷ xs) (y ∷ ys) within inside same =
 simulation : (words : List (List ℕ)) (t : Topology) (limits : Limits) (kind : Kind) (steps : ℕ) (trace : Bool) (h : AskForSim words t limits kind steps trace) → Sim t limits kind steps trace ≡ simulation_of t h.settings
 simulation words t limits kind steps trace h = let a = h.given_limits in let b = h.given_kind in let c = h.given_steps in let d = h.given_trace in cc
 
+-- and a plan to generate is that of its seed, its topology and its settings
+generation : (words : List (List ℕ)) (seed : ℕ) (t : Topology) (limits : Limits) (steps : ℕ) (h : AskForGen words seed t limits steps) → Gen seed t limits steps ≡ generation_of seed t h.settings
+generation words seed t limits steps h = let a = h.given_limits in let b = h.given_steps in cc
+
+first_word : (x y : List ℕ) (xs ys : List (List ℕ)) → x ∷ xs ≡ y ∷ ys → x ≡ y
+first_word x y xs ys same = ap (λ ws. get_or ws 0 x) same
+
 pub one_plan : AskForOnePlan
 one_plan words Check Check one other = refl
 one_plan words Check Listing one other = absurd (cc (one, other))
 one_plan words Check (Sim t limits kind steps trace) one other = absurd (cc (one, other.spelt))
+one_plan words Check (Gen seed t limits steps) one other = absurd (cc (one, other.spelt))
 one_plan words Listing Check one other = absurd (cc (one, other))
 one_plan words Listing Listing one other = refl
 one_plan words Listing (Sim t limits kind steps trace) one other = absurd (cc (one, other.spelt))
+one_plan words Listing (Gen seed t limits steps) one other = absurd (cc (one, other.spelt))
+one_plan words (Gen seed t limits steps) Check one other = absurd (cc (other, one.spelt))
+one_plan words (Gen seed t limits steps) Listing one other = absurd (cc (other, one.spelt))
+one_plan words (Gen seed s limits' steps') (Sim t limits kind steps trace) one other = absurd (sim_is_not_gen (first_word _ _ _ _ (sym other.spelt ∙ one.spelt)))
+one_plan words (Sim t limits kind steps trace) (Gen seed s limits' steps') one other = absurd (sim_is_not_gen (first_word _ _ _ _ (sym one.spelt ∙ other.spelt)))
+one_plan words (Gen m s limits steps) (Gen n t limits' steps') one other =
+    let both : codes "gen" ∷ seed_word m ∷ topology_word s ∷ one.others ≡ codes "gen" ∷ seed_word n ∷ topology_word t ∷ other.others = sym one.spelt ∙ other.spelt in
+    let second : seed_word m ≡ seed_word n = cc in
+    let third : topology_word s ≡ topology_word t = cc in
+    let rest : one.others ≡ other.others = cc in
+    let seed = same_number (codes "seed=") m n one.seeded other.seeded second in
+    let cluster = topology-word_injective s t third in
+    let settings = words-injective one.settings other.settings one.set.in_range other.set.in_range (sym one.set.spelt ∙ rest ∙ other.set.spelt) in
+    generation words m s limits steps one ∙ ap (λ k. generation_of k s one.settings) seed ∙ ap (λ u. generation_of n u one.settings) cluster ∙ ap (generation_of n t) settings ∙ sym (generation words n t limits' steps' other)
 one_plan words (Sim t limits kind steps trace) Check one other = absurd (cc (other, one.spelt))
 one_plan words (Sim t limits kind steps trace) Listing one other = absurd (cc (other, one.spelt))
 one_plan words (Sim s limits kind steps trace) (Sim t limits' kind' steps' trace') one other =

@@ -7,7 +7,8 @@ use Rattle.std.proofs.lemmas.List.{get_or-map, get_or-take, get_or_append_left, 
 use Rattle.std.proofs.lemmas.List.Elements.{All-push, All-take}
 use Rattle.std.proofs.lemmas.List.Quantifiers.{all_pairs_push}
 use Rattle.dsm_top.specs.declared.plans.Setting.{Setting}
-use Rattle.dsm_top.specs.Plans.{name_of, word_of, IsInRange, AreSettings, AreSome, texts}
+use Rattle.dsm_top.specs.declared.plans.Command.{Command}
+use Rattle.dsm_top.specs.Plans.{name_of, word_of, IsInRange, IsOf, AreSettings, AreSome, texts}
 use Rattle.dsm_top.proofs.Settings.{name-from_word}
 
 -- the last of some settings, and its word
@@ -39,11 +40,12 @@ pub All-from_none : (settings : List Setting) (s : Setting) → (Any (λ other. 
 All-from_none settings s new k d inside same = new (k, get_or settings k d, inside, get_or_default settings k _ d inside, same)
 
 -- one more setting
-pub AreSettings-more : (words : List (List ℕ)) (settings : List Setting) → AreSettings words settings → (s : Setting) → IsInRange s → (word : List ℕ) → word ≡ word_of s
-    → (Any (λ other. name_of other ≡ name_of s) settings → ⊥) → AreSettings (words ++ word ∷ []) (settings ++ s ∷ [])
-AreSettings-more words settings are s range word is new = record {
+pub AreSettings-more : (command : Command) (words : List (List ℕ)) (settings : List Setting) → AreSettings command words settings → (s : Setting) → IsInRange s → IsOf command s → (word : List ℕ) → word ≡ word_of s
+    → (Any (λ other. name_of other ≡ name_of s) settings → ⊥) → AreSettings command (words ++ word ∷ []) (settings ++ s ∷ [])
+AreSettings-more command words settings are s range takes word is new = record {
   spelt = ap (λ ws. ws ++ word ∷ []) are.spelt ∙ ap (λ w. map word_of settings ++ w ∷ []) is ∙ sym (map-append word_of settings (s ∷ []));
   in_range = All-push IsInRange settings s are.in_range range;
+  taken = All-push (IsOf command) settings s are.taken takes;
   differ = all_pairs_push (λ a b. name_of a ≢ name_of b) settings s are.differ (All-from_none settings s new);
 }
 
@@ -57,16 +59,17 @@ AllPairs-last R xs x all k d inside =
     (subst (R (get_or (xs ++ x ∷ []) k d)) (get_or-append_seam xs x [] d) (all k (length xs) d inside (omega (arith, length-append xs (x ∷ [])))))
 
 -- a word that is no setting ends no settings
-pub AreSome-none : (words : List (List ℕ)) (word : List ℕ) → ((s : Setting) → IsInRange s → word ≡ word_of s → ⊥) → AreSome (words ++ word ∷ []) → ⊥
-AreSome-none words word none (settings, are) =
+pub AreSome-none : (command : Command) (words : List (List ℕ)) (word : List ℕ) → ((s : Setting) → IsInRange s → IsOf command s → word ≡ word_of s → ⊥) → AreSome command (words ++ word ∷ []) → ⊥
+AreSome-none command words word none (settings, are) =
     let end = end-setting words word settings are.spelt in
     let range : IsInRange end.last = All-last IsInRange end.front end.last (subst (All IsInRange) end.whole are.in_range) in
-    none end.last range end.word_is
+    let takes : IsOf command end.last = All-last (IsOf command) end.front end.last (subst (All (IsOf command)) end.whole are.taken) in
+    none end.last range takes end.word_is
 
 -- nor does one whose name stands before
-pub AreSome-again : (words : List (List ℕ)) (settings : List Setting) → AreSettings words settings → (s : Setting) (word : List ℕ) → word ≡ word_of s
-    → Any (λ other. name_of other ≡ name_of s) settings → AreSome (words ++ word ∷ []) → ⊥
-AreSome-again words settings are s word is (k, other, inside, there, same) (others, are_others) =
+pub AreSome-again : (command : Command) (words : List (List ℕ)) (settings : List Setting) → AreSettings command words settings → (s : Setting) (word : List ℕ) → word ≡ word_of s
+    → Any (λ other. name_of other ≡ name_of s) settings → AreSome command (words ++ word ∷ []) → ⊥
+AreSome-again command words settings are s word is (k, other, inside, there, same) (others, are_others) =
     let end = end-setting words word others are_others.spelt in
     let differ = AllPairs-last (λ a b. name_of a ≢ name_of b) end.front end.last (subst (AllPairs (λ a b. name_of a ≢ name_of b)) end.whole are_others.differ) in
     let one : map word_of end.front ≡ map word_of settings = sym end.words_are ∙ are.spelt in
@@ -77,10 +80,11 @@ AreSome-again words settings are s word is (k, other, inside, there, same) (othe
     differ k other inside_too (name-from_word _ _ word_there ∙ same ∙ name-from_word _ _ (sym is ∙ end.word_is))
 
 -- the words before are settings too
-pub AreSettings-before : (words more : List (List ℕ)) (settings : List Setting) → AreSettings (words ++ more) settings → AreSettings words (take (length words) settings)
-AreSettings-before words more settings are = record {
+pub AreSettings-before : (command : Command) (words more : List (List ℕ)) (settings : List Setting) → AreSettings command (words ++ more) settings → AreSettings command words (take (length words) settings)
+AreSettings-before command words more settings are = record {
   spelt = sym (take-append_seam words more) ∙ ap (take (length words)) are.spelt ∙ take-map word_of (length words) settings;
   in_range = All-take IsInRange (length words) settings are.in_range;
+  taken = All-take (IsOf command) (length words) settings are.taken;
   differ = λ i j d lower upper.
       let short : length (take (length words) settings) ≡ min (length words) (length settings) = length-take (length words) settings in
       rw (get_or-take (length words) settings i d (omega (arith, short)), get_or-take (length words) settings j d (omega (arith, short)))

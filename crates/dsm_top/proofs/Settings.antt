@@ -8,12 +8,13 @@ use Rattle.std.proofs.lemmas.List.Elements.{filter_map-append, All-cons, All-nil
 use Rattle.std.proofs.lemmas.Slice.Eq.{bytes_eq-Decides}
 use Rattle.dsm_top.specs.declared.planning.Given.{Given}
 use Rattle.dsm_top.specs.declared.plans.Setting.{Setting}
-use Rattle.dsm_top.specs.declared.plans.Setting.TheVariants.{Kind as OfKind, Turns, Looks, Steps, Trace}
-use Rattle.dsm_top.specs.Plans.{name_of, word_of, kind_of, turns_of, looks_of, steps_of, trace_of, IsGivenBy}
+use Rattle.dsm_top.specs.declared.plans.Setting.TheVariants.{Kind as OfKind, Seed, Turns, Looks, Steps, Trace}
+use Rattle.dsm_top.specs.Plans.{name_of, word_of, kind_of, seed_of, turns_of, looks_of, steps_of, trace_of, IsGivenBy}
 
 -- the name stands in the word before its first `=`
 name-word : (s : Setting) → name_of s ≡ before_first (λ b. b == 61) (word_of s)
 name-word (OfKind kind) = refl
+name-word (Seed n) = refl
 name-word (Turns n) = refl
 name-word (Looks n) = refl
 name-word (Steps n) = refl
@@ -29,6 +30,10 @@ Names of name = (s : Setting) → is_some (of s) ≡ bytes_eq (name_of s) name
 pub kind-named : Names kind_of (codes "kind")
 kind-named (OfKind kind) = refl
 kind-named _ = refl
+
+pub seed-named : Names seed_of (codes "seed")
+seed-named (Seed n) = refl
+seed-named _ = refl
 
 pub turns-named : Names turns_of (codes "turns")
 turns-named (Turns n) = refl
@@ -92,6 +97,7 @@ module _ {A : Type 0} (of : Setting → Option A) (name : List ℕ) (names : Nam
 abbrev with_one : Given → Setting → Given
 with_one given s = record {
   kind = option_or (kind_of s) given.kind;
+  seed = option_or (seed_of s) given.seed;
   turns = option_or (turns_of s) given.turns;
   looks = option_or (looks_of s) given.looks;
   steps = option_or (steps_of s) given.steps;
@@ -101,6 +107,7 @@ with_one given s = record {
 pub with-IsGivenBy : (given : Given) (s : Setting) (settings : List Setting) → IsGivenBy given settings → All (λ other. name_of other ≢ name_of s) settings → IsGivenBy (with_one given s) (settings ++ s ∷ [])
 with-IsGivenBy given s settings all new = record {
   kind = given-more kind_of (codes "kind") kind-named settings given.kind all.kind s new;
+  seed = given-more seed_of (codes "seed") seed-named settings given.seed all.seed s new;
   turns = given-more turns_of (codes "turns") turns-named settings given.turns all.turns s new;
   looks = given-more looks_of (codes "looks") looks-named settings given.looks all.looks s new;
   steps = given-more steps_of (codes "steps") steps-named settings given.steps all.steps s new;

@@ -2,7 +2,7 @@
 use Rattle.std.proofs.Common.{◌≡◌, ◌≢◌, ℕ, ◌<◌, ◌^◌, Option, None, Some, MatchOption, Bor, List, ◌∷◌, ◌++◌, length, get_or, decimal, codes, Result, Ok, Err, ◌*◌, ◌↔◌, sym, ap, ◌∙◌, refl, arith, append_assoc, lit<}
 use Rattle.std.specs.Prelude.{IfOk, IfSome, IfNone}
 use Rattle.std.specs.Result.{result_ok}
-use Rattle.std.proofs.lemmas.Fmt.{decimal_is_IsNumeral}
+use Rattle.std.proofs.lemmas.Fmt.{decimal_injective, decimal_is_IsNumeral}
 use Rattle.std.proofs.lemmas.List.Prefix.{front_rest}
 use Rattle.std.proofs.lemmas.Str.Parse.{digit_at}
 use Rattle.std.proofs.lemmas.Str.Pattern.{IsSplitOnceResult, split_after, split_parts}
@@ -24,6 +24,19 @@ spells_none law word none n small is = let some = (law word n).1 (small, is) in 
 
 pub spells_one : NumbersAsPrinted → (word : List ℕ) (n : ℕ) → number_of word ≡ Some n → word ≡ decimal n
 spells_one law word n some = ((law word n).0 some).1
+
+-- the number behind one front, and where none stands there
+pub number_some : NumbersAsPrinted → (word front rest : List ℕ) → word ≡ front ++ rest → (r : Option ℕ) → r ≡ number_of rest → IfSome r (λ n. word ≡ front ++ decimal n)
+number_some law word front rest cut None is = tt
+number_some law word front rest cut (Some n) is = cut ∙ ap (λ w. front ++ w) (spells_one law rest n (sym is))
+
+pub number_none : NumbersAsPrinted → (word front rest : List ℕ) → word ≡ front ++ rest → (r : Option ℕ) → r ≡ number_of rest → IfNone r ((n : ℕ) → n < 2 ^ 64 → word ≡ front ++ decimal n → ⊥)
+number_none law word front rest cut None is = λ n small same. spells_none law rest (sym is) n small (same_behind word front rest (decimal n) cut same)
+number_none law word front rest cut (Some n) is = tt
+
+-- one number stands behind one front
+pub one_behind : (word front : List ℕ) (m n : ℕ) → m < 2 ^ 64 → n < 2 ^ 64 → word ≡ front ++ decimal m → word ≡ front ++ decimal n → m ≡ n
+one_behind word front m n small less one other = decimal_injective m n small less (same_behind word front (decimal m) (decimal n) one other)
 
 -- no number has an x
 pub no_x : (n : ℕ) → n < 2 ^ 64 → (i : ℕ) → i < length (decimal n) → get_or (decimal n) i 0 ≢ 120

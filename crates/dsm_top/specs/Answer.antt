@@ -1,24 +1,24 @@
 -- What the top call read, and what it wrote.
-use Rattle.std.specs.Prelude.{◌≡◌, ℕ, ◌≤◌, ◌⊎◌, Bool, List, length, codes, Option, None, Some}
+use Rattle.std.specs.Prelude.{◌≡◌, ℕ, ◌≤◌, ◌⊎◌, List, length, codes, Option, None, Some}
 use Rattle.std.specs.Io.KnownBytes.{Consumes, IsAtEnd}
 use Rattle.dsm_isa.specs.ProgramText.{ProgramText}
 use Rattle.dsm_grammar.specs.declared.fault.AsmKind.{AsmKind}
 use Rattle.dsm_grammar.specs.Faults.{first_fault_of}
 use Rattle.dsm_grammar.specs.Grammar.{program_of}
 use Rattle.dsm_list.specs.Canonical.{canonical, shape_line}
+use Rattle.dsm_gen.specs.Generated.{generated}
 use Rattle.dsm_report.specs.Report.{report}
-use Rattle.dsm_words.specs.declared.topology.Topology.{Topology}
-use Rattle.dsm_protocol.specs.declared.limits.Limits.{Limits}
+use Rattle.dsm_report.specs.Summary.{summary}
 use Rattle.dsm_runs.specs.Outcomes.{Ran}
-use Rattle.dsm_sched.specs.declared.kind.Kind.{Kind}
+use Rattle.dsm_sched.specs.declared.kind.Kind.TheVariants.{Round}
 use Rattle.dsm_io.specs.Faults.{Rose}
 use Rattle.dsm_io.specs.Whole.{ConsumesSome}
 use Rattle.dsm_top.specs.declared.plans.Plan.{Plan}
-use Rattle.dsm_top.specs.declared.plans.Plan.TheVariants.{Check, List as Listing, Sim}
+use Rattle.dsm_top.specs.declared.plans.Plan.TheVariants.{Check, List as Listing, Sim, Gen}
 use Rattle.dsm_top.specs.declared.reading.Unread.{Unread}
 use Rattle.dsm_top.specs.declared.reading.Unread.TheVariants.{Fault, TooLong, Refused, NoMemory}
 use Rattle.dsm_top.specs.Plans.{PlanOf}
-use Rattle.dsm_top.specs.Run.{Runs}
+use Rattle.dsm_top.specs.Run.{Runs, RunsBy}
 use Rattle.dsm_top.specs.Streams.{Reading, Writing, WritesAll, WritesPrefix}
 use Rattle.dsm_top.specs.Refusals.{refused_line, kind_name}
 
@@ -67,33 +67,52 @@ WritesLine w line = WritesAll w line ⊎ WritesPrefix w line
 abbrev pub RefusesAndWrites : Reading → Writing → Type 0
 RefusesAndWrites r w = (line : List ℕ) × RefusesText r line × WritesLine w line
 
+-- The program of a plan: that of the seed, or that which the text stands for that was read.
+abbrev pub Takes : Plan → Reading → ProgramText → Type 0
+Takes (Gen seed t limits steps) r p = p ≡ generated seed
+Takes _ r p = ReadsProgram r p
+
 -- The whole answer of a plan for a program, and what its run left where it is run.
 abbrev pub Answers : Plan → ProgramText → Option Ran → List ℕ → Type 0
 Answers Check p ran bytes = (ran ≡ None) × (bytes ≡ shape_line p)
 Answers Listing p ran bytes = (ran ≡ None) × (bytes ≡ canonical p)
 Answers (Sim t limits kind steps trace) p (Some ran) bytes = Runs t limits kind steps p ran × (bytes ≡ report t p.shape ran trace)
+Answers (Gen seed t limits steps) p (Some ran) bytes = Runs t limits Round steps p ran × (bytes ≡ summary seed t p ran)
 Answers (Sim t limits kind steps trace) p None bytes = ⊥
+Answers (Gen seed t limits steps) p None bytes = ⊥
 
--- the words ask for a plan, the text that was read stands for a program, and this is the answer
+-- the words ask for a plan, and this is the answer for its program
 pub record Accepts (words : List (List ℕ)) (r : Reading) (ran : Option Ran) (bytes : List ℕ) : Type 0 where
   pub plan : Plan
   pub asked : PlanOf words plan
   pub program : ProgramText
-  pub read : ReadsProgram r program
+  pub taken : Takes plan r program
   pub answers : Answers plan program ran bytes
 
--- the words ask to run the program
-abbrev pub AskToRun : List (List ℕ) → Type 0
-AskToRun words = (t : Topology) × (limits : Limits) × (kind : Kind) × (steps : ℕ) × (trace : Bool) × PlanOf words (Sim t limits kind steps trace)
+-- the plan is to run a program
+abbrev pub IsToRun : Plan → Type 0
+IsToRun Check = ⊥
+IsToRun Listing = ⊥
+IsToRun (Sim t limits kind steps trace) = Unit {0}
+IsToRun (Gen seed t limits steps) = Unit {0}
 
--- they do, the text that was read stands for a program, and this is what its run left
+-- it is to run the program of a seed
+abbrev pub IsToGenerate : Plan → Type 0
+IsToGenerate (Gen seed t limits steps) = Unit {0}
+IsToGenerate _ = ⊥
+
+-- the words ask to run a program
+abbrev pub AskToRun : List (List ℕ) → Type 0
+AskToRun words = (plan : Plan) × PlanOf words plan × IsToRun plan
+
+-- the words ask to run the program of a seed
+abbrev pub AskToGenerate : List (List ℕ) → Type 0
+AskToGenerate words = (plan : Plan) × PlanOf words plan × IsToGenerate plan
+
+-- they ask to run a program, and this is what its run left
 pub record HasRun (words : List (List ℕ)) (r : Reading) (ran : Ran) : Type 0 where
-  pub t : Topology
-  pub limits : Limits
-  pub kind : Kind
-  pub steps : ℕ
-  pub trace : Bool
-  pub asked : PlanOf words (Sim t limits kind steps trace)
+  pub plan : Plan
+  pub asked : PlanOf words plan
   pub program : ProgramText
-  pub read : ReadsProgram r program
-  pub runs : Runs t limits kind steps program ran
+  pub taken : Takes plan r program
+  pub runs : RunsBy plan program ran

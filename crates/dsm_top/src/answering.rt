@@ -12,6 +12,7 @@ use dsm_list::listing::list;
 use dsm_protocol::limits::Limits;
 use dsm_report::reporting::text;
 use dsm_report::shape_text;
+use dsm_report::summing::summary;
 use dsm_runs::laws::{one_node_law, run_law};
 use dsm_sched::kind::Kind;
 use dsm_sched::simulation::sim;
@@ -47,6 +48,12 @@ pub fn answer_to(alloc: Global, plan: Plan, program: &Program) -> Result<Answer,
             steps,
             trace,
         } => run_and_report(alloc, program, t, limits, kind, steps, trace),
+        Plan::Gen {
+            seed,
+            t,
+            limits,
+            steps,
+        } => run_and_sum_up(alloc, program, seed, t, limits, steps),
     }
 }
 
@@ -67,6 +74,28 @@ fn run_and_report(
     one_node_law();
     let ran = sim(alloc, program, t, limits, kind, steps)?.ran;
     let text = text(alloc, t, program, &ran, trace)?;
+    Ok(Answer {
+        text,
+        ran: Some(ran),
+    })
+}
+
+/// Runs the program, which is that of the seed, in cyclic order, and sums it up.
+fn run_and_sum_up(
+    alloc: Global,
+    program: &Program,
+    seed: u64,
+    t: Topology,
+    limits: Limits,
+    steps: u64,
+) -> Result<Answer, NoMemory>
+    requires { IsSetup (setup_of program.now t limits) }
+    ensures { IfOk result (λ a. Answers (Plan.Gen seed t limits steps) program.now a.ran a.text.items) }
+{
+    run_law();
+    one_node_law();
+    let ran = sim(alloc, program, t, limits, Kind::Round, steps)?.ran;
+    let text = summary(alloc, seed, t, program, &ran)?;
     Ok(Answer {
         text,
         ran: Some(ran),

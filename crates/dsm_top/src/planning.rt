@@ -1,11 +1,13 @@
-ghost use Rattle.std.specs.Prelude.{◌≡◌, ◌≢◌, ◌↔◌, ℕ, ◌<◌, ◌≤◌, ◌^◌, IsTrue, All, Any, ◌++◌, ◌∷◌, [], List, IfSome, IfNone, IfOk, IfErr, MatchOption, length, codes, decimal};
+ghost use Rattle.std.specs.Prelude.{◌≡◌, ◌≢◌, ◌↔◌, ℕ, ◌<◌, ◌≤◌, ◌^◌, IsTrue, All, Any, ◌++◌, ◌+◌, ◌∷◌, [], List, IfSome, IfNone, IfOk, IfErr, MatchOption, length, codes, decimal};
 ghost use Rattle.dsm_words.specs.Counts.{IsFrom1To};
 ghost use Rattle.dsm_words.specs.declared.topology.Topology.{Topology as topology_of};
+ghost use Rattle.dsm_top.specs.declared.plans.Command.TheVariants.{Sim, Gen};
 ghost use Rattle.dsm_top.specs.declared.plans.Setting.{Setting as setting_of};
-ghost use Rattle.dsm_top.specs.Plans.{texts, topology_word, word_of, name_of, IsInRange, AreSome, IsGivenBy, Give, FirstUnset, PlanOf, FirstFault};
+ghost use Rattle.dsm_top.specs.Plans.{texts, topology_word, seed_word, word_of, name_of, IsInRange, IsOf, AreSome, IsGivenBy, limits_in, schedule_of, Give, FirstUnset, PlanOf, FirstFault};
 
 use crate::plans::{
-    DEFAULT_LOOKS, DEFAULT_STEPS, DEFAULT_TURNS, MOST_LOOKS, MOST_STEPS, MOST_TURNS, Plan, Setting,
+    Command, DEFAULT_LOOKS, DEFAULT_SEED, DEFAULT_STEPS, DEFAULT_TURNS, KindWord, MOST_LOOKS,
+    MOST_STEPS, MOST_TURNS, Plan, Setting,
 };
 use dsm_lex::laws::lex_law;
 use dsm_lex::spelling::number;
@@ -19,7 +21,8 @@ mod tests;
 /// What the settings among some words give.
 #[derive(Clone, Copy)]
 struct Given {
-    kind: Option<Kind>,
+    kind: Option<KindWord>,
+    seed: Option<u64>,
     turns: Option<u64>,
     looks: Option<u64>,
     steps: Option<u64>,
@@ -38,6 +41,7 @@ pub fn plan(words: &[String]) -> Result<Plan, u64>
         "check" => alone(rest, Plan::Check),
         "list" => alone(rest, Plan::List),
         "sim" => simulation(rest),
+        "gen" => generation(rest),
         _ => Err(1),
     }
 }
@@ -61,9 +65,43 @@ fn simulation(rest: &[String]) -> Result<Plan, u64>
     let Some(t) = topology(word.as_str()) else {
         return Err(2);
     };
-    match settings(rest) {
+    match settings(Command::Sim, rest) {
         Ok(given) => Ok(given.simulation(t)),
         Err(k) => Err(k + 2),
+    }
+}
+
+/// The plan of `gen` and the words behind it.
+fn generation(rest: &[String]) -> Result<Plan, u64>
+    ensures plan { IfOk result (λ p. PlanOf (codes "gen" ∷ texts rest.now) p) }
+    ensures fault { IfErr result (λ k. FirstFault (codes "gen" ∷ texts rest.now) k) }
+{
+    let Some((word, rest)) = rest.split_first() else {
+        return Err(2);
+    };
+    let Some(seed) = number_after(word.as_str().as_bytes(), b"seed=") else {
+        return Err(2);
+    };
+    match seeded(seed, rest) {
+        Ok(plan) => Ok(plan),
+        Err(k) => Err(k + 2),
+    }
+}
+
+/// The plan of `gen`, this seed and the words behind it, or the number, from 1, of the first faulty one of these.
+fn seeded(seed: u64, rest: &[String]) -> Result<Plan, u64>
+    ensures plan { IfOk result (λ p. PlanOf (codes "gen" ∷ seed_word seed ∷ texts rest.now) p) }
+    ensures fault { IfErr result (λ k. (1 ≤ k) × FirstFault (codes "gen" ∷ seed_word seed ∷ texts rest.now) (k + 2)) }
+{
+    let Some((word, rest)) = rest.split_first() else {
+        return Err(1);
+    };
+    let Some(t) = topology(word.as_str()) else {
+        return Err(1);
+    };
+    match settings(Command::Gen, rest) {
+        Ok(given) => Ok(given.generation(seed, t)),
+        Err(k) => Err(k + 1),
     }
 }
 
@@ -87,20 +125,22 @@ fn small_number(word: &[u8]) -> Option<u32>
     u32::try_from(number(word)?).ok()
 }
 
-/// What the words set, or the number, from 1, of the first that sets nothing or what one before it does.
-fn settings(words: &[String]) -> Result<Given, u64>
-    ensures given { IfOk result (λ given. Give (texts words.now) given) }
-    ensures fault { IfErr result (λ k. FirstUnset (texts words.now) k) }
+/// What the words behind the command set, or the number, from 1, of the first that sets nothing, what the command does
+/// not take, or what one before it does.
+fn settings(command: Command, words: &[String]) -> Result<Given, u64>
+    ensures given { IfOk result (λ given. Give command (texts words.now) given) }
+    ensures fault { IfErr result (λ k. FirstUnset command (texts words.now) k) }
 {
     let mut given = Given {
         kind: None,
+        seed: None,
         turns: None,
         looks: None,
         steps: None,
         trace: None,
     };
     for (i, word) in words.iter().enumerate() {
-        let Some(more) = given.with_word(word.as_str().as_bytes()) else {
+        let Some(more) = given.with_word(command, word.as_str().as_bytes()) else {
             return Err(i as u64 + 1);
         };
         given = more;
@@ -109,11 +149,11 @@ fn settings(words: &[String]) -> Result<Given, u64>
 }
 
 impl Given {
-    /// With what one more word sets, if that is not given yet.
-    fn with_word(self, word: &[u8]) -> Option<Given>
-        ensures { (words : List (List ℕ)) → Give words self → MatchOption result (AreSome (words ++ word.now ∷ []) → ⊥) (λ more. Give (words ++ word.now ∷ []) more) }
+    /// With what one more word sets, if the command takes it and it is not given yet.
+    fn with_word(self, command: Command, word: &[u8]) -> Option<Given>
+        ensures { (words : List (List ℕ)) → Give command words self → MatchOption result (AreSome command (words ++ word.now ∷ []) → ⊥) (λ more. Give command (words ++ word.now ∷ []) more) }
     {
-        let setting = setting(word)?;
+        let setting = setting_of_command(command, word)?;
         if self.has(setting) {
             None
         } else {
@@ -127,6 +167,7 @@ impl Given {
     {
         match setting {
             Setting::Kind(_) => self.kind.is_some(),
+            Setting::Seed(_) => self.seed.is_some(),
             Setting::Turns(_) => self.turns.is_some(),
             Setting::Looks(_) => self.looks.is_some(),
             Setting::Steps(_) => self.steps.is_some(),
@@ -141,6 +182,10 @@ impl Given {
         match setting {
             Setting::Kind(kind) => Given {
                 kind: Some(kind),
+                ..self
+            },
+            Setting::Seed(n) => Given {
+                seed: Some(n),
                 ..self
             },
             Setting::Turns(n) => Given {
@@ -162,20 +207,76 @@ impl Given {
         }
     }
 
+    /// The limits that are given, and the default of what is not.
+    fn limits(self) -> Limits
+        ensures { (settings : List setting_of) → IsGivenBy self settings → result ≡ limits_in settings }
+    {
+        Limits {
+            turns: self.turns.unwrap_or(DEFAULT_TURNS),
+            looks: Some(self.looks.unwrap_or(DEFAULT_LOOKS)),
+        }
+    }
+
     /// The plan to simulate this cluster with what is given, and with the default of all else.
     fn simulation(self, t: Topology) -> Plan
-        ensures { (words : List (List ℕ)) → Give words self → PlanOf (codes "sim" ∷ topology_word t ∷ words) result }
+        ensures { (words : List (List ℕ)) → Give Sim words self → PlanOf (codes "sim" ∷ topology_word t ∷ words) result }
     {
         Plan::Sim {
             t,
-            limits: Limits {
-                turns: self.turns.unwrap_or(DEFAULT_TURNS),
-                looks: Some(self.looks.unwrap_or(DEFAULT_LOOKS)),
-            },
-            kind: self.kind.unwrap_or(Kind::Round),
+            limits: self.limits(),
+            kind: schedule(
+                self.kind.unwrap_or(KindWord::Round),
+                self.seed.unwrap_or(DEFAULT_SEED),
+            ),
             steps: self.steps.unwrap_or(DEFAULT_STEPS),
             trace: self.trace.unwrap_or(false),
         }
+    }
+
+    /// The plan to run the program of this seed on this cluster with what is given, and with the default of all else.
+    fn generation(self, seed: u64, t: Topology) -> Plan
+        ensures { (words : List (List ℕ)) → Give Gen words self → PlanOf (codes "gen" ∷ seed_word seed ∷ topology_word t ∷ words) result }
+    {
+        Plan::Gen {
+            seed,
+            t,
+            limits: self.limits(),
+            steps: self.steps.unwrap_or(DEFAULT_STEPS),
+        }
+    }
+}
+
+/// The schedule of this kind; only a mixed one uses the seed.
+fn schedule(kind: KindWord, seed: u64) -> Kind
+    ensures { result ≡ schedule_of kind seed }
+{
+    match kind {
+        KindWord::Round => Kind::Round,
+        KindWord::Mixed => Kind::Mixed { seed },
+    }
+}
+
+/// The setting that a word is, if it is one that the command takes.
+fn setting_of_command(command: Command, word: &[u8]) -> Option<Setting>
+    ensures some { IfSome result (λ setting. IsInRange setting × IsOf command setting × (word.now ≡ word_of setting)) }
+    ensures none { IfNone result ((setting : setting_of) → IsInRange setting → IsOf command setting → word.now ≡ word_of setting → ⊥) }
+{
+    let setting = setting(word)?;
+    if takes(command, setting) {
+        Some(setting)
+    } else {
+        None
+    }
+}
+
+/// Whether the command takes the setting.
+fn takes(command: Command, setting: Setting) -> bool
+    ensures { IsTrue result ↔ IsOf command setting }
+{
+    match (command, setting) {
+        (Command::Sim, _) => true,
+        (Command::Gen, Setting::Turns(_) | Setting::Looks(_) | Setting::Steps(_)) => true,
+        (Command::Gen, _) => false,
     }
 }
 
@@ -185,7 +286,13 @@ fn setting(word: &[u8]) -> Option<Setting>
     ensures none { IfNone result ((setting : setting_of) → IsInRange setting → word.now ≡ word_of setting → ⊥) }
 {
     if word == b"kind=round".as_slice() {
-        return Some(Setting::Kind(Kind::Round));
+        return Some(Setting::Kind(KindWord::Round));
+    }
+    if word == b"kind=mixed".as_slice() {
+        return Some(Setting::Kind(KindWord::Mixed));
+    }
+    if let Some(n) = number_after(word, b"seed=") {
+        return Some(Setting::Seed(n));
     }
     if word == b"trace".as_slice() {
         return Some(Setting::Trace);
@@ -200,12 +307,20 @@ fn setting(word: &[u8]) -> Option<Setting>
     Some(Setting::Steps(n))
 }
 
+/// The number that stands in a word behind `name`.
+fn number_after(word: &[u8], name: &[u8]) -> Option<u64>
+    ensures some { IfSome result (λ n. word.now ≡ name.now ++ decimal n) }
+    ensures none { IfNone result ((n : ℕ) → n < 2 ^ 64 → word.now ≡ name.now ++ decimal n → ⊥) }
+{
+    lex_law();
+    number(word.strip_prefix(name)?)
+}
+
 /// The number from 1 to `most` that stands in a word behind `name`.
 fn number_behind(word: &[u8], name: &[u8], most: u64) -> Option<u64>
     ensures some { IfSome result (λ n. IsFrom1To most n × (word.now ≡ name.now ++ decimal n)) }
     ensures none { IfNone result ((n : ℕ) → IsFrom1To most n → word.now ≡ name.now ++ decimal n → ⊥) }
 {
-    lex_law();
-    let n = number(word.strip_prefix(name)?)?;
+    let n = number_after(word, name)?;
     if 1 <= n && n <= most { Some(n) } else { None }
 }

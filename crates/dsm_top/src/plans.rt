@@ -20,6 +20,9 @@ pub const MOST_STEPS: u64 = 1_000_000_000_000;
 /// The events of all processors where `steps` is not given.
 pub const DEFAULT_STEPS: u64 = 100_000_000;
 
+/// The seed where `seed` is not given.
+pub const DEFAULT_SEED: u64 = 0;
+
 /// What the words of a command line ask for.
 #[derive(Clone, Copy, Debug, PartialEq, Eq)]
 pub enum Plan {
@@ -37,13 +40,41 @@ pub enum Plan {
         /// Whether the report has each entry of each processor.
         trace: bool,
     },
+    /// `gen seed=s NxC` and settings: runs the program of this seed on this cluster.
+    Gen {
+        seed: u64,
+        t: Topology,
+        limits: Limits,
+        /// The most events of all processors.
+        steps: u64,
+    },
 }
 
-/// What a word behind the topology of `sim` sets.
+/// A command that takes settings.
+#[derive(Clone, Copy, Debug, PartialEq, Eq)]
+pub enum Command {
+    /// `sim`
+    Sim,
+    /// `gen`
+    Gen,
+}
+
+/// The word for a kind of schedule.
+#[derive(Clone, Copy, Debug, PartialEq, Eq)]
+pub enum KindWord {
+    /// `round`
+    Round,
+    /// `mixed`
+    Mixed,
+}
+
+/// What a word behind the topology sets. `gen` takes `turns`, `looks` and `steps` alone.
 #[derive(Clone, Copy, Debug, PartialEq, Eq)]
 pub enum Setting {
-    /// `kind=round`
-    Kind(Kind),
+    /// `kind=round` and `kind=mixed`
+    Kind(KindWord),
+    /// `seed=s`, which only `kind=mixed` uses
+    Seed(u64),
     /// `turns=t`
     Turns(u64),
     /// `looks=l`

@@ -4,12 +4,12 @@ ghost use Rattle.dsm_runs.specs.Outcomes.{AllHalted, SomeWants};
 ghost use Rattle.dsm_top.specs.declared.plans.Plan.{Plan as plan_of_words};
 ghost use Rattle.dsm_top.specs.Plans.{texts, PlanOf, FirstFault};
 ghost use Rattle.dsm_top.specs.Refusals.{refused_word, refused_line, kind_name as name_of_kind};
-ghost use Rattle.dsm_top.specs.Answer.{RefusesAndWrites, WritesLine, Accepts, AskToRun, HasRun};
+ghost use Rattle.dsm_top.specs.Answer.{RefusesAndWrites, WritesLine, Accepts, AskToRun, AskToGenerate, HasRun};
 ghost use Rattle.dsm_top.specs.Streams.{reading, writing, WritesAll, WritesPrefix};
 
 use crate::answering::{Answer, answer_to};
 use crate::planning::plan;
-use crate::reading::{Unread, read_program};
+use crate::reading::{Unread, take_program};
 use crate::refusal::{Line, kind_name, refuse_line, refuse_word};
 use dsm_asm::fault::AsmFault;
 use dsm_core::ran::Ran;
@@ -28,8 +28,8 @@ pub struct Done {
     pub ran: Option<Ran>,
 }
 
-/// Does what the words of the command line ask for: reads the program from the source, and writes the
-/// answer to the sink. It waits for nobody.
+/// Does what the words of the command line ask for: reads the program from the source, or generates it, and writes
+/// the answer to the sink. It waits for nobody.
 pub fn still<S: Source, K: Sink>(
     alloc: Global,
     words: &[String],
@@ -55,8 +55,11 @@ pub fn still<S: Source, K: Sink>(
     ensures read_well { result.status ≢ 4 → S.faults source.new ≡ S.faults source.old }
     ensures unwritten { (result.status ≡ 4) ⊎ (result.status ≡ 6) → sink.new ≡ sink.old }
 
-    // In all other cases the text was read whole, has no fault, and the answer of the plan to its program
-    // was made. It was written and handed on, but for status 5, which comes only where a write or the finish failed:
+    // Where the words ask for the program of a seed nothing is read, and so no read fails and no text is refused.
+    ensures generated { AskToGenerate (texts words.now) → (source.new ≡ source.old) × (result.status ≢ 3) × (result.status ≢ 4) }
+
+    // In all other cases the plan's program was taken: that of the seed, or the one of the text, which was read whole and
+    // has no fault. The answer of the plan to it was made. It was written and handed on, but for status 5, which comes only where a write or the finish failed:
     // then a prefix was written.
     ensures whole { (result.status ≡ 0) ⊎ (result.status ≡ 1) ⊎ (result.status ≡ 7) → (bytes : List ℕ)
         × Accepts (texts words.now) (reading S.left S.faults source.old source.new) result.ran bytes
@@ -65,7 +68,7 @@ pub fn still<S: Source, K: Sink>(
         × Accepts (texts words.now) (reading S.left S.faults source.old source.new) result.ran bytes
         × WritesPrefix (writing K.written K.handed K.faults sink.old sink.new) bytes }
 
-    // Where the words ask to run the program, it was run by the schedule, and the run is as promised.
+    // Where the words ask to run a program, it was run by the schedule, and the run is as promised.
     ensures ran { IsSome result.ran ↔ (AskToRun (texts words.now) × ((result.status ≡ 0) ⊎ (result.status ≡ 1) ⊎ (result.status ≡ 5) ⊎ (result.status ≡ 7))) }
     ensures run { IfSome result.ran (HasRun (texts words.now) (reading S.left S.faults source.old source.new)) }
     // Status 0 where all processors halted, 7 where one ended for want of memory, and else 1.
@@ -77,7 +80,7 @@ pub fn still<S: Source, K: Sink>(
         Ok(plan) => plan,
         Err(k) => return refuse(sink, &refuse_word(k), 2),
     };
-    let program = match read_program(alloc, source) {
+    let program = match take_program(alloc, plan, source) {
         Ok(program) => program,
         Err(Unread::Fault) => return without_run(4),
         Err(Unread::TooLong) => return refuse(sink, &refuse_line(0, "TooLong"), 3),

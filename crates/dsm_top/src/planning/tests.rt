@@ -11,11 +11,15 @@ enum Wanted {
     Sim(u32, u32, u64, u64, u64),
     /// `sim` on so many nodes of so many processors each, with its trace and all else by default.
     Traced(u32, u32),
+    /// `sim` on so many nodes of so many processors each, in the order that this seed draws, with all else by default.
+    Mixed(u32, u32, u64),
+    /// `gen` of this seed on so many nodes of so many processors each, with these turns, looks and steps.
+    Gen(u64, u32, u32, u64, u64, u64),
     /// The number of the first faulty word.
     Fault(u64),
 }
 
-use Wanted::{Check, Fault, List, Sim, Traced};
+use Wanted::{Check, Fault, Gen, List, Mixed, Sim, Traced};
 
 const ROWS: &[(&[&str], Wanted)] = &[
     (&["check"], Check),
@@ -113,10 +117,65 @@ const ROWS: &[(&[&str], Wanted)] = &[
     (&["sim", "1x1", "trace", "trace"], Fault(4)),
     (&["sim", "1x1", "trace="], Fault(3)),
     (&["sim", "1x1", "trace=1"], Fault(3)),
-    (&["sim", "1x1", "seed=1"], Fault(3)),
-    (&["sim", "1x1", "kind=mixed"], Fault(3)),
+    (&["sim", "1x1", "kind=mixed"], Mixed(1, 1, 0)),
+    (&["sim", "6x1", "kind=mixed", "seed=3"], Mixed(6, 1, 3)),
+    (&["sim", "2x3", "seed=0", "kind=mixed"], Mixed(2, 3, 0)),
+    (
+        &["sim", "4x4", "seed=18446744073709551615", "kind=mixed"],
+        Mixed(4, 4, 18_446_744_073_709_551_615),
+    ),
+    (
+        &["sim", "1x1", "seed=1"],
+        Sim(1, 1, 200_000, 50_000_000, 100_000_000),
+    ),
+    (
+        &["sim", "1x1", "seed=1", "turns=5", "kind=round"],
+        Sim(1, 1, 5, 50_000_000, 100_000_000),
+    ),
+    (&["sim", "1x1", "seed=1", "seed=1"], Fault(4)),
+    (&["sim", "1x1", "seed=1", "kind=mixed", "seed=2"], Fault(5)),
+    (&["sim", "1x1", "kind=mixed", "kind=mixed"], Fault(4)),
+    (&["sim", "1x1", "kind=mixed", "kind=round"], Fault(4)),
+    (&["sim", "1x1", "seed=18446744073709551616"], Fault(3)),
+    (&["sim", "1x1", "seed=01"], Fault(3)),
+    (&["sim", "1x1", "seed=-1"], Fault(3)),
+    (&["sim", "1x1", "seed="], Fault(3)),
+    (&["sim", "1x1", "seed"], Fault(3)),
+    (&["sim", "1x1", "kind="], Fault(3)),
+    (&["sim", "1x1", "kind"], Fault(3)),
+    (&["sim", "1x1", "kind=mix"], Fault(3)),
+    (&["sim", "1x1", "kind=mixed3"], Fault(3)),
+    (&["sim", "seed=1", "1x1"], Fault(2)),
     (&["sim", "1x1", "1x1"], Fault(3)),
     (&["sim", "1x1", ""], Fault(3)),
+    (
+        &["gen", "seed=1", "4x8"],
+        Gen(1, 4, 8, 200_000, 50_000_000, 100_000_000),
+    ),
+    (
+        &[
+            "gen",
+            "seed=18446744073709551615",
+            "1x1",
+            "steps=7",
+            "turns=5",
+            "looks=6",
+        ],
+        Gen(18_446_744_073_709_551_615, 1, 1, 5, 6, 7),
+    ),
+    (&["gen"], Fault(2)),
+    (&["gen", "1x1", "seed=1"], Fault(2)),
+    (&["gen", "seed=01", "1x1"], Fault(2)),
+    (&["gen", "seed=18446744073709551616", "1x1"], Fault(2)),
+    (&["gen", "seed=1"], Fault(3)),
+    (&["gen", "seed=1", "seed=1"], Fault(3)),
+    (&["gen", "seed=1", "8x5"], Fault(3)),
+    (&["gen", "seed=1", "1x1", "trace"], Fault(4)),
+    (&["gen", "seed=1", "1x1", "kind=round"], Fault(4)),
+    (&["gen", "seed=1", "1x1", "seed=1"], Fault(4)),
+    (&["gen", "seed=1", "1x1", "threads"], Fault(4)),
+    (&["gen", "seed=1", "1x1", "turns=5", "turns=5"], Fault(5)),
+    (&["gen", "seed=1", "1x1", "steps=0"], Fault(4)),
 ];
 
 /// The plan of `sim` on so many nodes of so many processors each.
@@ -124,13 +183,14 @@ fn simulation(
     nodes: u32,
     procs: u32,
     limits: Limits,
+    kind: Kind,
     steps: u64,
     trace: bool,
 ) -> Result<Plan, Fail> {
     Ok(Plan::Sim {
         t: Topology::new(nodes, procs).ok().ok_or("no such cluster")?,
         limits,
-        kind: Kind::Round,
+        kind,
         steps,
         trace,
     })
@@ -149,6 +209,7 @@ fn answer(wanted: Wanted) -> Result<Result<Plan, u64>, Fail> {
             nodes,
             procs,
             limits(turns, looks),
+            Kind::Round,
             steps,
             false,
         )?),
@@ -156,9 +217,24 @@ fn answer(wanted: Wanted) -> Result<Result<Plan, u64>, Fail> {
             nodes,
             procs,
             limits(200_000, 50_000_000),
+            Kind::Round,
             100_000_000,
             true,
         )?),
+        Mixed(nodes, procs, seed) => Ok(simulation(
+            nodes,
+            procs,
+            limits(200_000, 50_000_000),
+            Kind::Mixed { seed },
+            100_000_000,
+            false,
+        )?),
+        Gen(seed, nodes, procs, turns, looks, steps) => Ok(Plan::Gen {
+            seed,
+            t: Topology::new(nodes, procs).ok().ok_or("no such cluster")?,
+            limits: limits(turns, looks),
+            steps,
+        }),
         Fault(k) => Err(k),
     })
 }

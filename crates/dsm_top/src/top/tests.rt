@@ -10,6 +10,7 @@ use dsm_io::{MemSink, MemSource};
 use std::test::Fail;
 
 mod clusters;
+mod generated;
 
 /// A program that stores 7 to word 2, loads it again and prints it.
 const FIRST: &[u8] = b".words 4\nli r1 7\nli r2 2\nst r1 r2 0\nld r3 r2 0\nout r3\nhalt\n";
@@ -44,6 +45,13 @@ const COMMANDS: &[Row] = &[
         ".pages 1\n.words 4\n.locks 0\n.barriers 0\n.flags 0\nli r1 7\nli r2 2\nst r1 r2 0\nld r3 r2 0\nout r3\nhalt\n",
     ),
     (SIM, FIRST, 0, FIRST_REPORT),
+    (&["sim", "1x1", "seed=1"], FIRST, 0, FIRST_REPORT),
+    (
+        &["sim", "1x1", "kind=mixed", "seed=1"],
+        FIRST,
+        0,
+        FIRST_REPORT,
+    ),
     (&["sim"], FIRST, 2, "refused word 2\n"),
     (&[], FIRST, 2, "refused word 1\n"),
     (&["check", "x"], FIRST, 2, "refused word 2\n"),
@@ -122,10 +130,23 @@ const WORDS: &[Row] = &[
         "refused word 3\n",
     ),
     (
-        &["sim", "1x1", "looks=1", "kind=mixed"],
+        &["sim", "1x1", "seed=1", "kind=mixed", "seed=1"],
+        FIRST,
+        2,
+        "refused word 5\n",
+    ),
+    (
+        &["sim", "1x1", "kind=mixed", "kind=round"],
         FIRST,
         2,
         "refused word 4\n",
+    ),
+    (&["sim", "1x1", "kind=drawn"], FIRST, 2, "refused word 3\n"),
+    (
+        &["sim", "1x1", "seed=18446744073709551616"],
+        FIRST,
+        2,
+        "refused word 3\n",
     ),
     (
         &["sim", "1x1", "trace", "trace"],

@@ -2,13 +2,18 @@ use Rattle.std.proofs.Common.{◌≡◌, ℕ, ◌+◌, suc, List, [], ◌∷◌,
 use Rattle.std.proofs.Math.Seq.{take-suc}
 use Rattle.dsm_runs.specs.Setups.{Setup}
 use Rattle.dsm_runs.specs.Clusters.{Cluster}
+use Rattle.dsm_ties.specs.Clocks.{ClockBound, ClocksStand}
+use Rattle.dsm_ties.specs.Holders.{OneHolder, UnregisteredUnmapped, WritersTwinned, HomeBare, HomelessUntouched, HomelessUnwritten}
+use Rattle.dsm_ties.proofs.Bounding.{clock_bound, clocks_stand}
+use Rattle.dsm_ties.proofs.Holders.{one_holder, unregistered, writers, home_bare, untouched}
+use Rattle.dsm_ties.proofs.Joining.{tied}
+use Rattle.dsm_ties.proofs.Unwritten.{unwritten}
 use Rattle.dsm_core.specs.States.{setup_of, cluster_in, Stepped}
 use Rattle.dsm_meta.specs.Facts.{SyncIsLegal, OwnMaps, TurnHolders, SomeGoesOn, SparesMappings, HomeFixed}
 use Rattle.dsm_meta.specs.Following.{Followed}
-use Rattle.dsm_meta.proofs.Homes.{home_fixed}
 use Rattle.dsm_meta.proofs.Turns.{turn_holders}
 use Rattle.dsm_meta.proofs.Following.{followed_none, followed_on, holds_followed}
-use Rattle.dsm_meta.proofs.Every.{sync_is_legal, own_maps, some_goes_on, spares_mappings}
+use Rattle.dsm_meta.proofs.Every.{sync_is_legal, own_maps, some_goes_on, spares_mappings, home_fixed}
 use Rattle.dsm_meta.proofs.after.pages_after.Goals as goal
 
 pub loop-p-init : goal.loop-p-init
@@ -53,3 +58,27 @@ returns-clause-other_maps c = holds_followed SparesMappings spares_mappings c.ar
 
 pub returns-clause-home_fixed : goal.returns-clause-home_fixed
 returns-clause-home_fixed c = holds_followed HomeFixed home_fixed c.args.program.now c.args.t c.args.limits _ c.loop-p.state c.loop-p.invariant.setup c.loop-p.invariant.followed
+
+pub returns-clause-clock_bound : goal.returns-clause-clock_bound
+returns-clause-clock_bound c = holds_followed ClockBound clock_bound c.args.program.now c.args.t c.args.limits _ c.loop-p.state c.loop-p.invariant.setup c.loop-p.invariant.followed
+
+pub returns-clause-clocks : goal.returns-clause-clocks
+returns-clause-clocks c = holds_followed ClocksStand clocks_stand c.args.program.now c.args.t c.args.limits _ c.loop-p.state c.loop-p.invariant.setup c.loop-p.invariant.followed
+
+pub returns-clause-one_holder : goal.returns-clause-one_holder
+returns-clause-one_holder c = holds_followed OneHolder (one_holder tied) c.args.program.now c.args.t c.args.limits _ c.loop-p.state c.loop-p.invariant.setup c.loop-p.invariant.followed
+
+pub returns-clause-unregistered : goal.returns-clause-unregistered
+returns-clause-unregistered c = holds_followed UnregisteredUnmapped (unregistered tied) c.args.program.now c.args.t c.args.limits _ c.loop-p.state c.loop-p.invariant.setup c.loop-p.invariant.followed
+
+pub returns-clause-writers : goal.returns-clause-writers
+returns-clause-writers c = holds_followed WritersTwinned (writers tied) c.args.program.now c.args.t c.args.limits _ c.loop-p.state c.loop-p.invariant.setup c.loop-p.invariant.followed
+
+pub returns-clause-home_bare : goal.returns-clause-home_bare
+returns-clause-home_bare c = holds_followed HomeBare (home_bare tied) c.args.program.now c.args.t c.args.limits _ c.loop-p.state c.loop-p.invariant.setup c.loop-p.invariant.followed
+
+pub returns-clause-untouched : goal.returns-clause-untouched
+returns-clause-untouched c = holds_followed HomelessUntouched (untouched tied) c.args.program.now c.args.t c.args.limits _ c.loop-p.state c.loop-p.invariant.setup c.loop-p.invariant.followed
+
+pub returns-clause-unwritten : goal.returns-clause-unwritten
+returns-clause-unwritten c = holds_followed HomelessUnwritten (unwritten tied) c.args.program.now c.args.t c.args.limits _ c.loop-p.state c.loop-p.invariant.setup c.loop-p.invariant.followed

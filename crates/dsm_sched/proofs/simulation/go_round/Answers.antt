@@ -1,10 +1,10 @@
-use Rattle.std.proofs.Common.{◌≡◌, ◌*◌, Some, None, refl, sym, ap, ◌∙◌, subst, arith}
-use Rattle.dsm_words.specs.Place.{lay_of, processors}
+use Rattle.std.proofs.Common.{◌≡◌, refl, sym, ap, ◌∙◌, arith, subst, length}
 use Rattle.dsm_runs.specs.Setups.{Setup}
-use Rattle.dsm_runs.specs.Clusters.{Cluster}
-use Rattle.dsm_core.specs.States.{setup_in, cluster_in, Stepped}
-use Rattle.dsm_sched.specs.Schedules.{cyclic, first_running as first_of}
-use Rattle.dsm_sched.proofs.Going.{going_at_start, stepped_on, whole_made, whole_ended}
+use Rattle.dsm_core.specs.States.{cluster_in}
+use Rattle.dsm_sched.specs.declared.kind.Kind.TheVariants.{Round}
+use Rattle.dsm_sched.specs.Schedules.{running, Moves}
+use Rattle.dsm_sched.proofs.Going.{round_at_start, round_on, whole_made, whole_ended}
+use Rattle.dsm_sched.proofs.Listing.{is_nil}
 use Rattle.dsm_sched.proofs.simulation.go_round.Goals as goal
 
 pub loop-made-init : goal.loop-made-init
@@ -13,40 +13,31 @@ loop-made-init c =
       setup = refl;
       is_for = c.requires.is_for;
       within = omega arith;
-      inside = omega arith;
-      going = going_at_start _ _ c.requires.start;
+      left = c.requires.running;
+      going = round_at_start _ _ c.requires.start;
     }
 
-pub returns-in_default-clause-leads : goal.returns-in_default-clause-leads
-returns-in_default-clause-leads c =
-    let s : Setup = setup_in c.args.state.now c.args.program.now in
+pub returns-then-is_empty-clause-leads : goal.returns-then-is_empty-clause-leads
+returns-then-is_empty-clause-leads c =
     let l = c.loop-made in
-    let now : Cluster = cluster_in l.state c.args.program.now.code in
-    let all : processors (lay_of l.state.lay) ≡ s.nodes * s.procs = ap (λ (x : Setup). x.nodes * x.procs) l.invariant.setup in
-    let none : first_of now (cyclic (s.nodes * s.procs) l.from) ≡ None = sym (c.in_default.ensures.first c.args.program.now.code ∙ ap (λ n. first_of now (cyclic n l.from)) all) in
-    whole_ended s l.made l.from now l.invariant.going c.args.steps l.invariant.within (omega (arith, all, l.invariant.inside)) none
+    whole_ended Round _ l.made _ l.invariant.going.going c.args.steps l.invariant.within (sym l.invariant.left ∙ is_nil l.running.items _ c.is_empty.result l.running.ok.0 c.is_empty.ensures c.if-is_empty.true)
 
 pub returns-clause-leads : goal.returns-clause-leads
 returns-clause-leads c =
     let l = c.loop-made in
-    whole_made _ l.made l.from _ l.invariant.going c.args.steps (omega arith)
+    whole_made Round _ l.made _ l.invariant.going.going c.args.steps (omega arith)
 
 pub loop-made-preserved : goal.loop-made-preserved
 loop-made-preserved c =
-    let s : Setup = setup_in c.args.state.now c.args.program.now in
     let l = c.loop-made in
-    let p = c.in-Some.p in
     let code = c.args.program.now.code in
-    let old : Cluster = cluster_in l.state code in
-    let new : Cluster = cluster_in c.step.new.self code in
-    let all : processors (lay_of l.state.lay) ≡ s.nodes * s.procs = ap (λ (x : Setup). x.nodes * x.procs) l.invariant.setup in
-    let still : processors (lay_of c.step.new.self.lay) ≡ processors (lay_of l.state.lay) = ap (λ (x : Setup). x.nodes * x.procs) c.step.ensures.setup in
-    let found : first_of old (cyclic (s.nodes * s.procs) l.from) ≡ Some p = sym (c.in-Some.ensures.first code ∙ ap (λ n. first_of old (cyclic n l.from)) all) in
-    let did : Stepped s old new p c.step.result = subst (λ x. Stepped x old new p c.step.result) l.invariant.setup c.step.ensures.step in
+    let old = cluster_in l.state code in
+    let new = cluster_in c.step_one-from.new.state code in
+    let many : c.len.result ≡ length (running old) = c.len.ensures ∙ l.running.ok.0 ∙ ap length l.invariant.left in
     record {
-      setup = c.step.ensures.setup ∙ l.invariant.setup;
-      is_for = c.step.ensures.is_for;
+      setup = c.step_one-from.ensures.setup ∙ l.invariant.setup;
+      is_for = c.step_one-from.ensures.is_for;
       within = omega arith;
-      inside = omega (arith, still, c.in-Some.ensures.inside);
-      going = stepped_on s l.made l.from old l.invariant.going p found new c.step.result did;
+      left = c.step_one-from.ensures.running;
+      going = round_on _ l.made l.from c.in_round-at.result c.step_one-from.result old new l.invariant.going (λ low. c.in_round-at.ensures.within (omega (arith, low, many))) (λ high. c.in_round-at.ensures.first (omega (arith, high, many))) (subst (λ (x : Setup). Moves x old new c.in_round-at.result c.step_one-from.result) l.invariant.setup c.step_one-from.ensures.moves);
     }

@@ -1,7 +1,7 @@
 use Rattle.std.proofs.Common.{◌≡◌, ◌-◌, ◌≤◌}
-use Rattle.dsm_words.specs.Place.{lay_of, processors}
 use Rattle.dsm_core.specs.States.{setup_in, cluster_in, IsFor}
-use Rattle.dsm_sched.proofs.Going.{Going}
+use Rattle.dsm_sched.specs.Schedules.{running}
+use Rattle.dsm_sched.proofs.Going.{GoingRound}
 use Rattle.dsm_sched.proofs.simulation.go_round.Given as goal
 
 abbrev pub invariant-loop-made : goal.invariant-loop-made
@@ -10,8 +10,8 @@ invariant-loop-made l =
       setup : setup_in l.state l.program ≡ setup_in l.fn.state l.program;
       is_for : IsFor l.state l.program;
       within : l.made ≤ l.steps;
-      inside : l.from ≤ processors (lay_of l.state.lay);
-      going : Going (setup_in l.fn.state l.program) l.made l.from (cluster_in l.state l.program.code);
+      left : l.running.items ≡ running (cluster_in l.state l.program.code);
+      going : GoingRound (setup_in l.fn.state l.program) l.made l.from (cluster_in l.state l.program.code);
     }
 
 abbrev pub decreases-loop-made : goal.decreases-loop-made

@@ -18,18 +18,18 @@ pub answer_to-requires : goal.answer_to-requires
 answer_to-requires g c =
     let within = subst (λ (q : ProgramText). IsWithinLimits q.shape.pages q.shape.words q.shape.locks q.shape.barriers q.shape.flags) c.program.view_is c.program.inside.shape.within in
     let objects = subst (λ (q : ProgramText). ObjectsInside q.shape q.code) c.program.view_is c.program.invariant.1 in
-    runnable (texts c.args.words.now) c.in-Ok.plan c.in-Ok-read_program.program c.in-Ok.ensures.plan within objects
+    runnable (texts c.args.words.now) c.in-Ok.plan c.in-Ok-take_program.program c.in-Ok.ensures.plan within objects
 
 pub returns-clause-run : goal.returns-clause-run
 returns-clause-run g c =
     rw c.finish.ensures.ran
-    (has_run (texts c.args.words.now) _ c.in-Ok.plan c.in-Ok-read_program.program c.in-Ok-answer_to.answer.ran c.in-Ok-answer_to.answer.text.items c.in-Ok.ensures.plan c.in-Ok-read_program.ensures.program c.in-Ok-answer_to.ensures)
+    (has_run (texts c.args.words.now) _ c.in-Ok.plan c.in-Ok-take_program.program c.in-Ok-answer_to.answer.ran c.in-Ok-answer_to.answer.text.items c.in-Ok.ensures.plan c.in-Ok-take_program.ensures.program c.in-Ok-answer_to.ensures)
 
 pub returns-clause-ran : goal.returns-clause-ran
 returns-clause-ran g c =
     let words = texts c.args.words.now in
     let plan = c.in-Ok.plan in
-    let program = c.in-Ok-read_program.program in
+    let program = c.in-Ok-take_program.program in
     let answer = c.in-Ok-answer_to.answer in (
       λ some. (asked_to words plan program answer.ran answer.text.items c.in-Ok.ensures.plan c.in-Ok-answer_to.ensures (subst IsSome c.finish.ensures.ran some), c.finish.ensures.status),
       λ ask. subst IsSome (sym c.finish.ensures.ran) (has_ran words plan program answer.ran answer.text.items c.in-Ok.ensures.plan c.in-Ok-answer_to.ensures ask.0),

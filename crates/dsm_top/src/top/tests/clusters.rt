@@ -9,6 +9,7 @@ use dsm_entry::trace::Trace;
 use dsm_flat::judge::judge;
 use dsm_flat::verdict::Verdict;
 use std::alloc::Global;
+use std::process::Abort;
 use std::test::Fail;
 
 /// Processor 0 stores 5 to word 0, and behind that processor 1 stores 0 to it, with which it started; processor 0 prints 0, the last.
@@ -304,7 +305,7 @@ fn largest_cluster(rt: HostRuntime) -> Result<(), Fail> {
     Ok(())
 }
 
-// The sum was found by a plain relaxation of one array. Sixteen processors print and leave what one does.
+// The sum was found by a plain relaxation of one array. Sixteen processors print and leave what one does, in both orders.
 #[test]
 fn relaxes_a_grid(rt: HostRuntime) -> Result<(), Fail> {
     let (status, written) = answer(rt.alloc(), &["sim", "1x1"], GRID, (4096, &[]), (4096, &[]))?;
@@ -315,9 +316,14 @@ fn relaxes_a_grid(rt: HostRuntime) -> Result<(), Fail> {
     assert!(rt; rest.starts_with(b"out 0 999828\npage 0 0"));
     let mut wanted = halted(rt.alloc(), "cashmere 4x4\n", 16)?;
     wanted.extend_from_slice(rest)?;
-    let (status, written) = answer(rt.alloc(), &["sim", "4x4"], GRID, (4096, &[]), (4096, &[]))?;
-    assert_eq!(rt; status, 0);
-    assert!(rt; uncounted(&written) == wanted.as_slice());
+    for words in [
+        ["sim", "4x4"].as_slice(),
+        ["sim", "4x4", "kind=mixed", "seed=3"].as_slice(),
+    ] {
+        let (status, written) = answer(rt.alloc(), words, GRID, (4096, &[]), (4096, &[]))?;
+        assert_eq!(rt; status, 0);
+        assert!(rt; uncounted(&written) == wanted.as_slice());
+    }
     Ok(())
 }
 
@@ -347,26 +353,44 @@ fn neighbours_are_ordered(rt: HostRuntime) -> Result<(), Fail> {
 // Processors 4 and 5 race for word 4, on the page of four others, who get what they must.
 #[test]
 fn racing_neighbours(rt: HostRuntime) -> Result<(), Fail> {
-    let (done, _) = asked(
-        rt.alloc(),
-        &["sim", "6x1"],
-        RACERS,
-        (4096, &[]),
-        (4096, &[]),
-    )?;
+    races(&rt, rt.alloc(), &["sim", "6x1"])
+}
+
+// In every order.
+#[test]
+fn racing_neighbours_in_mixed_order(rt: HostRuntime) -> Result<(), Fail> {
+    for seed in 0..20 {
+        let seed = format!(in rt.alloc(); "seed={seed}")?;
+        races(
+            &rt,
+            rt.alloc(),
+            &["sim", "6x1", "kind=mixed", seed.as_str()],
+        )?;
+    }
+    Ok(())
+}
+
+// What the neighbours and the racers leave.
+fn races(rt: &impl Abort, alloc: Global, words: &[&str]) -> Result<(), Fail> {
+    let (done, _) = asked(alloc, words, RACERS, (4096, &[]), (4096, &[]))?;
     assert_eq!(rt; done.status, 0);
     let ran = done.ran.ok_or("no run")?;
     assert!(rt; ran.traces.len() == 6);
     for (p, wanted) in [101, 102, 103, 100].iter().enumerate() {
-        let outs = printed(rt.alloc(), &ran.traces[p])?;
-        assert_eq!(rt; outs.as_slice(), [*wanted].as_slice(), "processor {p}");
+        let outs = printed(alloc, &ran.traces[p])?;
+        assert_eq!(rt;
+            outs.as_slice(),
+            [*wanted].as_slice(),
+            "processor {p}: {words:?}"
+        );
     }
     for trace in &ran.traces[4..6] {
-        let outs = printed(rt.alloc(), trace)?;
+        let outs = printed(alloc, trace)?;
         assert!(rt;
             [[0], [104], [105]]
                 .iter()
-                .any(|v| outs.as_slice() == v.as_slice())
+                .any(|v| outs.as_slice() == v.as_slice()),
+            "{words:?}"
         );
     }
     assert!(rt; ran.pages.as_slice().starts_with(&[100, 101, 102, 103]));
@@ -374,10 +398,26 @@ fn racing_neighbours(rt: HostRuntime) -> Result<(), Fail> {
         x: Place { p: 4, i: 0 },
         y: Place { p: 5, i: 0 },
     };
-    assert_eq!(rt; judge(rt.alloc(), ran.traces.as_slice(), 4)?, first);
-    assert_eq!(rt;
-        judge(rt.alloc(), ran.traces.as_slice(), 0)?,
-        Verdict::Ordered
-    );
+    assert_eq!(rt; judge(alloc, ran.traces.as_slice(), 4)?, first, "{words:?}");
+    assert_eq!(rt; judge(alloc, ran.traces.as_slice(), 0)?, Verdict::Ordered);
+    Ok(())
+}
+
+// Each processor's own words and the sum under a lock are the same in every order.
+#[test]
+fn coalesces_in_mixed_order(rt: HostRuntime) -> Result<(), Fail> {
+    for seed in 0..20 {
+        let seed = format!(in rt.alloc(); "seed={seed}")?;
+        assert!(rt;
+            answers(
+                rt.alloc(),
+                &["sim", "2x3", "kind=mixed", seed.as_str()],
+                COALESCED,
+                0,
+                "cashmere 2x3\nend 0 halted\nend 1 halted\nend 2 halted\nend 3 halted\nend 4 halted\nend 5 halted\npage 0 20 20 20 20 20 20 120 0\n",
+            )?,
+            "{seed}"
+        );
+    }
     Ok(())
 }

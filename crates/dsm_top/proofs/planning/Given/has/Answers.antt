@@ -1,10 +1,13 @@
 use Rattle.std.proofs.Common.{codes}
-use Rattle.dsm_top.specs.Plans.{kind_of, turns_of, looks_of, steps_of, trace_of}
-use Rattle.dsm_top.proofs.Settings.{given-Any, kind-named, turns-named, looks-named, steps-named, trace-named}
+use Rattle.dsm_top.specs.Plans.{kind_of, seed_of, turns_of, looks_of, steps_of, trace_of}
+use Rattle.dsm_top.proofs.Settings.{given-Any, kind-named, seed-named, turns-named, looks-named, steps-named, trace-named}
 use Rattle.dsm_top.proofs.planning.Given.has.Goals as goal
 
 pub returns-in-Kind : goal.returns-in-Kind
 returns-in-Kind c settings given = rw (c.is_some.ensures, c.in-Kind.is) (given-Any kind_of (codes "kind") kind-named settings c.args.self.kind given.kind)
+
+pub returns-in-Seed : goal.returns-in-Seed
+returns-in-Seed c settings given = rw (c.is_some-in-Seed.ensures, c.in-Seed.is) (given-Any seed_of (codes "seed") seed-named settings c.args.self.seed given.seed)
 
 pub returns-in-Turns : goal.returns-in-Turns
 returns-in-Turns c settings given = rw (c.is_some-in-Turns.ensures, c.in-Turns.is) (given-Any turns_of (codes "turns") turns-named settings c.args.self.turns given.turns)

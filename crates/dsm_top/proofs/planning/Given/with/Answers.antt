@@ -1,9 +1,12 @@
-use Rattle.dsm_top.specs.declared.plans.Setting.TheVariants.{Kind as OfKind, Turns, Looks, Steps, Trace}
+use Rattle.dsm_top.specs.declared.plans.Setting.TheVariants.{Kind as OfKind, Seed, Turns, Looks, Steps, Trace}
 use Rattle.dsm_top.proofs.Settings.{with-IsGivenBy}
 use Rattle.dsm_top.proofs.planning.Given.with.Goals as goal
 
 pub returns-in-Kind : goal.returns-in-Kind
 returns-in-Kind c = rw c.in-Kind.is (with-IsGivenBy c.args.self (OfKind c.in-Kind.kind))
+
+pub returns-in-Seed : goal.returns-in-Seed
+returns-in-Seed c = rw c.in-Seed.is (with-IsGivenBy c.args.self (Seed c.in-Seed.n))
 
 pub returns-in-Turns : goal.returns-in-Turns
 returns-in-Turns c = rw c.in-Turns.is (with-IsGivenBy c.args.self (Turns c.in-Turns.n))

@@ -1,0 +1,9 @@
+// A large program from a number.
+#![tactic(auto)]
+
+pub mod generating;
+mod instructions;
+pub mod numbers;
+mod parts;
+#[cfg(test)]
+mod tests;
