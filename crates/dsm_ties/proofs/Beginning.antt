@@ -36,7 +36,7 @@ use Rattle.dsm_ties.proofs.Eventing.{Each}
 no_bit : (g v : ℕ) → v ≡ 0 → has_bit g v ≡ true → ⊥
 no_bit g v z e = let a : bit_at 0 (g % 64) ≡ 1 = eqb-true (bit_at 0 (g % 64)) 1 (ap (has_bit g) (sym z) ∙ e) in let b = bit_at-zero (g % 64) in absurd (omega (arith, a, b))
 
-start_match : (s : Setup) (g : ℕ) → g < s.program.shape.pages → Match (who_at s 0) g (start s).words D.start
+pub start_match : (s : Setup) (g : ℕ) → g < s.program.shape.pages → Match (who_at s 0) g (start s).words D.start
 start_match s g g_in =
     record {
       home = starts_by_items s (Home g) g_in;
@@ -51,22 +51,22 @@ start_match s g g_in =
       listed = λ q i e. absurd (no_bit g _ (starts_by_items s (OwnWord q (group_of g)) (i, group_in (lay_in s) g g_in)) e);
     }
 
-none_dirty : (n g : ℕ) → slice_index_or (replicate n false) g false ≡ false
+pub none_dirty : (n g : ℕ) → slice_index_or (replicate n false) g false ≡ false
 none_dirty zero g = refl
 none_dirty (suc n) zero = refl
 none_dirty (suc n) (suc g) = none_dirty n g
 
-true_not_false : true ≡ false → ⊥
+pub true_not_false : true ≡ false → ⊥
 true_not_false e = absurd (cc e)
 
 -- the processor k of the start
-start_at : (s : Setup) (k : ℕ) → k < s.nodes * s.procs → slice_get (start s).processors k ≡ Some (new_processor (who_at s k) s.program.code)
+pub start_at : (s : Setup) (k : ℕ) → k < s.nodes * s.procs → slice_get (start s).processors k ≡ Some (new_processor (who_at s k) s.program.code)
 unfolding start
 start_at s k b = slice_get-map-range_with_len_below (λ q. new_processor (who_at s q) s.program.code) (s.nodes * s.procs) 0 k b ∙ ap (λ q. Some (new_processor (who_at s q) s.program.code)) (let z : 0 + k ≡ k = omega arith in z)
 
 module _ (u : Who) where
   -- a processor that has done nothing
-  sets_out : IsPlaced u → (code : List Instr) → (w : Work) × Stands u w (new_processor u code) × Path u (Off Idle) new_own w (new_processor u code).own
+  pub sets_out : IsPlaced u → (code : List Instr) → (w : Work) × Stands u w (new_processor u code) × Path u (Off Idle) new_own w (new_processor u code).own
   sets_out at code = let r = settle u at code (head_typed u at code Instruction new_own) in (r.next, record { works = r.works; holds = works_held u r.works (path_settled u r.path tt); ready = ready_run u code new_own (Begin Instruction) }, r.path)
 
 module _ (s : Setup) (g : ℕ) (g_in : g < s.program.shape.pages) (each : Each s g g_in)

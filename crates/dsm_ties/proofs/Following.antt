@@ -65,7 +65,7 @@ module _ (u : Who) where
   path_maps (Decides slip k) e = path_maps k (slip_free slip)
   path_maps {o = o} (Notes i noted k) e = let f = note_free o noted e in path_maps k f.0 ∙ f.1
 
-  slip_maps : {w w' v : Work} {o p : Own} → Slip u o.maps o.dirty w w' → Path u w' o v p → p.maps ≡ o.maps
+  pub slip_maps : {w w' v : Work} {o p : Own} → Slip u o.maps o.dirty w w' → Path u w' o v p → p.maps ≡ o.maps
   slip_maps slip k = path_maps k (slip_free slip)
 
 -- one that has ended does nothing
@@ -91,7 +91,7 @@ module _ {u : Who} {ms : List ℕ} {ds : List Bool} where
   hears_here g hears = refl
 
 -- the answer of an event is what was there, but for the load of a frame or a twin
-answers : (any : Option ℕ) (a : Act) (x v : ℕ) → x ≡ told a v → Answers a (answer any a x) v
+pub answers : (any : Option ℕ) (a : Act) (x v : ℕ) → x ≡ told a v → Answers a (answer any a x) v
 answers any (Get (Frame n g i)) x v e = tt
 answers any (Get (Twin n g i)) x v e = tt
 answers any a x v e = e
@@ -189,7 +189,7 @@ module _ (u : Who) (at : IsPlaced u) (g : ℕ) (g_in : g < u.lay.pages) where
       slip_any Gone slip own all k = absurd (slip_goes slip refl)
 
       -- a note
-      note_any : (w : Work) {i : Note} {v : Work} (noted : Noted u None w i v) → Is w o → Is v (own_after o i)
+      pub note_any : (w : Work) {i : Note} {v : Work} (noted : Noted u None w i v) → Is w o → Is v (own_after o i)
       note_any (On r h s) {i} {v} noted k = go (cases_eq h g)
         where
           Shown : ℕ → Type 0
