@@ -1,3 +1,4 @@
+pub mod Adding
 pub mod OrderLaws
 pub mod Objects
 pub mod History
@@ -8,3 +9,10 @@ pub mod Lists
 pub mod Rows
 pub mod Searching
 pub mod Listing
+pub mod Clocks
+pub mod Counting
+pub mod Deciding
+pub mod Following
+pub mod Gating
+pub mod Racing
+pub mod Visiting

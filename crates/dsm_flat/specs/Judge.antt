@@ -1,8 +1,6 @@
 -- The first pair of conflicting places that is not ordered.
-use Rattle.std.specs.Prelude.{◌≡◌, ℕ, ◌<◌, ◌⊎◌, List, map}
-use Rattle.dsm_entry.specs.declared.entry.Entry.{Entry}
+use Rattle.std.specs.Prelude.{◌≡◌, ℕ, ◌<◌, ◌⊎◌}
 use Rattle.dsm_entry.specs.declared.entry.Place.{Place}
-use Rattle.dsm_entry.specs.Told.{Told}
 use Rattle.dsm_flat.specs.Order.{Traces, Before}
 use Rattle.dsm_flat.specs.Flat.{Conflict}
 

@@ -8,3 +8,9 @@ pub mod Judge
 pub mod Links
 pub mod Rows
 pub mod Accesses
+pub mod Clocks
+pub mod Racing
+pub mod Visits
+pub mod Gates
+pub mod Following
+pub mod Latest

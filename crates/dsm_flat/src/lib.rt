@@ -2,10 +2,17 @@
 #![tactic(auto)]
 
 mod accesses;
+mod clock;
+mod gate;
+mod gates;
+mod index;
 pub mod judge;
+mod latest;
 pub mod laws;
 mod links;
 mod passes;
+pub mod raced;
 mod reach;
 mod row;
 pub mod verdict;
+mod visits;

@@ -1,5 +1,5 @@
 -- What is known of the other processors stays under an event of one.
-use Rattle.std.proofs.Common.{◌<◌, ◌≡◌, ◌≢◌, ◌⊎◌, inl, inr, ℕ, ◌==◌, Bool, true, false, List, [], ◌∷◌, Option, None, Some, refl, sym, ap, ◌∙◌, subst}
+use Rattle.std.proofs.Common.{◌<◌, ◌≡◌, ◌≢◌, ◌⊎◌, inl, inr, ℕ, true, List, [], ◌∷◌, Option, None, Some, refl, sym, ap, ◌∙◌}
 use Rattle.std.specs.Prelude.{IfSome}
 use Rattle.std.proofs.lemmas.Bool.{eqb-true}
 use Rattle.dsm_words.specs.Place.{IsWithin}
@@ -9,10 +9,7 @@ use Rattle.dsm_clock.specs.declared.turns.TurnId.TheVariants.{Page, Notices}
 use Rattle.dsm_protocol.specs.Own.{Who, node_of}
 use Rattle.dsm_protocol.specs.Stages.{Stage, Compared, Judged, Posting, Telling, Posted, Work, Off, On, Gone, turn_at, stage_turn}
 use Rattle.dsm_ties.specs.Views.{AtStage}
-use Rattle.dsm_fresh.specs.Stages as S
-use Rattle.dsm_fresh.specs.Stages.{is_worker}
 use Rattle.dsm_fresh.specs.Pages.{Event, Reset, Draw, First, Last, Stamp, Enter, Current, Current_sole, Done, Send, Pass_by, Post_bit, Pass, Drain_none, Drain_some, Time, Notify, Flag, Flagged, Other_time, Other_notice, Give, Take, Skip, Unmap, Keep, Keep_sole, Settle, Page as Copy, State, page_after, happens, after}
-use Rattle.dsm_fresh.specs.Premises.{May}
 use Rattle.dsm_freshness.specs.Views.{has_served, stamp_read}
 use Rattle.dsm_freshness.specs.Tied.{Knows}
 use Rattle.dsm_freshness.proofs.Words.{stage_kept, others_kept}
@@ -121,26 +118,3 @@ module _ (m n g : ℕ) (first : ℕ) (u : Who) (w : Work) (p : ℕ) (t : Option 
   pub others_stay : (f : State) (es : List Event) → AllMade m n g p t es → Knows m n g u f w → Knows m n g u (after first f es) w
   others_stay f [] made k = k
   others_stay f (e ∷ es) made k = others_stay (happens first f e) es made.1 (other_one f e made.0 k)
-
--- a worker that is another processor was at work before the event, as it is behind it
-module _ (first top : ℕ) (f : State) (p q : ℕ) (ne : q ≢ p) where
-  mine : (k : ℕ) → k ≡ p → (k == q) ≡ true → ⊥
-  mine k e d = ne (sym (eqb-true k q d) ∙ e)
-
-  pub work_other : (e : Event) → IsBy p e → May first top f e → is_worker q (page_after first f.page e).work ≡ true → (page_after first f.page e).work ≡ f.page.work
-  work_other (Draw k) by may i = absurd (mine k by i)
-  work_other (First k a) by may i = absurd (mine k by (go f.page.work may.1 i))
-    where
-      go : (w : S.Work) → w ≡ S.Ready k may.0 → is_worker q (S.opened a f.page.sent w) ≡ true → (k == q) ≡ true
-      go w e i = subst (λ z. is_worker q (S.opened a f.page.sent z) ≡ true) e i
-  work_other (Last k) by may i = absurd (mine k by (subst (λ z. is_worker q (S.copied z) ≡ true) may.3 i))
-  work_other (Stamp k) by may i = absurd (mine k by (go may.0 (subst (λ z. is_worker q (S.stamped z) ≡ true) may.3 i)))
-    where
-      go : (a : Bool) → is_worker q (S.stamped (S.Copied k a may.1 may.2)) ≡ true → (k == q) ≡ true
-      go true i = i
-      go false i = i
-  work_other (Enter k) by may i = absurd (mine k by i)
-  work_other (Current k) by may i = absurd (mine k by i)
-  work_other (Current_sole k) by may i = absurd (mine k by i)
-  work_other (Done k) by may i = absurd (cc i)
-  work_other e by may i = refl

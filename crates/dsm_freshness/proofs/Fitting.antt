@@ -1,16 +1,13 @@
 -- Each row, turn, decision and note leads to a place that fits: a stage of a fault in an access, one of an acquire in an acquire.
-use Rattle.std.proofs.Common.{◌≡◌, ℕ, ◌+◌, ◌==◌, Bool, true, false, List, Option, None, Some, refl, ◌∙◌, if◌then◌else◌}
+use Rattle.std.proofs.Common.{ℕ, ◌+◌, ◌==◌, Bool, true, false, List, None, refl, ◌∙◌, if◌then◌else◌}
 use Rattle.std.specs.Prelude.{◌&&◌, ◌||◌, not, nat_lt}
 use Rattle.std.proofs.lemmas.List.{length-set}
 use Rattle.dsm_words.specs.Script.{Act}
 use Rattle.dsm_clock.specs.declared.turns.TurnId.{TurnId}
-use Rattle.dsm_clock.specs.declared.turns.TurnId.TheVariants.{Page}
-use Rattle.dsm_protocol.specs.Own.{Own, Who, node_of}
+use Rattle.dsm_protocol.specs.Own.{Who, node_of}
 use Rattle.dsm_protocol.specs.Jobs.{Note}
-use Rattle.dsm_protocol.specs.Stages.{Cause, Fault, Closing, Seeker, For_fault, For_release, For_closing, Stage, Round, Holder, Closes, Work, Off, stage_turn, turn_at, found, registered, held_alone, departed, lowered, Soiling, Giving}
+use Rattle.dsm_protocol.specs.Stages.{Cause, Fault, Closing, Seeker, For_fault, For_release, For_closing, Stage, Round, Holder, Closes, Work, Off, found, registered, held_alone, departed, lowered, Soiling, Giving}
 use Rattle.dsm_protocol.specs.Rows.{Step, Wins, Slip, Noted, sees_dir, seeks, settles, looks, reads_map, departs, sees_again, tests, judges, merges, has_twin, sets, gives, sees_release, lasts, draws_send, tests_flush, flushes_same, reads_dir, lowers, untwins, finishes, sees_acquire, judges_own, sees_bare, gives_over, gives_notices, takes, seeks_holder, closes, shared, marked, claimed, unlowered, dropped, emptied, taken, maps, wants, unmaps}
-use Rattle.dsm_protocol.specs.Standing.{Path, Stay, Decides, Notes}
-use Rattle.dsm_protocol.proofs.Turning.{IsSettled, slip_settled, note_settled}
 use Rattle.dsm_freshness.proofs.Frame.{Fits, IsStored, cause_fits, seeker_fits, stage_fits}
 
 -- one of two stages
@@ -43,14 +40,6 @@ module _ (u : Who) where
   lowered_stored : (flushed : Bool) → IsStored (lowered u flushed)
   lowered_stored true = tt
   lowered_stored false = tt
-
-  turn_of : (g : ℕ) {t : Option TurnId} (d : Bool) (s z : Stage) → stage_turn u g s ≡ t → stage_turn u g z ≡ t → stage_turn u g (if d then s else z) ≡ t
-  turn_of g true s z a b = a
-  turn_of g false s z a b = b
-
-  lowered_turn : (g : ℕ) (flushed : Bool) → stage_turn u g (lowered u flushed) ≡ Some (Page (node_of u) g)
-  lowered_turn g true = refl
-  lowered_turn g false = refl
 
   module _ {ms : List ℕ} {ds : List Bool} where
     pub row_fits : {w : Work} {a : Act} {x : ℕ} {v : Work} → Step u ms ds w a x v → Fits w → Fits v
@@ -109,26 +98,6 @@ module _ (u : Who) where
     slip_fits taken f = tt
     slip_fits slip f = f
 
-    -- a decision keeps the turn
-    pub slip_turn : {w v : Work} → Slip u ms ds w v → turn_at u v ≡ turn_at u w
-    slip_turn (shared {g = g} {write = write} {row = row}) = turn_of g (row.busy == 0) _ _ (turn_of g (write && not row.others) _ _ refl refl) refl
-    slip_turn (marked {g = g} {h = h} {j = j}) = turn_of g (j == h) _ _ refl refl
-    slip_turn (claimed {g = g} {h = h} {row = row}) = turn_of g row.others _ _ refl (turn_of g (node_of u == h) _ _ refl refl)
-    slip_turn (unlowered {g = g} {flushed = flushed} e) = lowered_turn g flushed
-    slip_turn (dropped {g = g} {unwritten = unwritten}) = turn_of g unwritten _ _ refl refl
-    slip_turn (emptied {g = g} {free = free}) = turn_of g free _ _ refl refl
-    slip_turn slip = refl
-
   pub note_fits : {w v : Work} {i : Note} → Noted u None w i v → Fits w → Fits v
   note_fits maps f = f.1
   note_fits noted f = f
-
-  -- and so does a note
-  pub note_turn : {w v : Work} {i : Note} → Noted u None w i v → IsSettled u w → turn_at u v ≡ turn_at u w
-  note_turn maps owed = owed.0
-  note_turn noted owed = refl
-
-  pub path_turn : {w v : Work} {o q : Own} → Path u w o v q → IsSettled u w → turn_at u v ≡ turn_at u w
-  path_turn Stay owed = refl
-  path_turn (Decides slip path) owed = path_turn path (slip_settled u slip) ∙ slip_turn slip
-  path_turn (Notes i noted path) owed = path_turn path (note_settled u noted owed) ∙ note_turn noted owed

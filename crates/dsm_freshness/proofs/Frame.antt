@@ -392,10 +392,6 @@ module _ (c : Scene) where
   pub turn_word : {r : Round} {h : ℕ} {s : Stage} {o : Own} {a : Act} {x : ℕ} → Meets (On r h s) o a x → stage_turn c.u h s ≡ Some (Page (node_of c.u) h) → IsMine h ≡ true → word c.u.lay c.ws (Turn c.n c.g) ≡ suc c.u.p
   turn_word {h = h} f tu e = let m = mine h e in f.turn (Page c.n c.g) (c.n_in, c.g_in) (tu ∙ ap Some (λ i. Page (m.1 i) (m.0 i)))
 
-  -- so does that of its node's notices
-  pub notice_word : {r : Round} {o : Own} {a : Act} {x : ℕ} → Meets (Off r) o a x → round_turn c.u r ≡ Some (Notices (node_of c.u)) → word c.u.lay c.ws (NoticeTurn (node_of c.u)) ≡ suc c.u.p
-  notice_word f tu = f.turn (Notices (node_of c.u)) c.at.node_in tu
-
   -- an event of its own node's copy, at its page
   own_at : {r : Round} {h : ℕ} {t : Stage} {ws' : List ℕ} (e : Event) → word c.u.lay c.ws (Turn c.n c.g) ≡ suc c.u.p → has_served c.m c.n c.g c.u (On r h t) ≡ false → IsMine h ≡ true → OwnEvent (On r h t) ws' t e → Acted (On r h t) ws' (e ∷ [])
   own_at {r} {h} {t} e turn se is z =

@@ -5,7 +5,7 @@ use Rattle.dsm_clock.specs.declared.turns.TurnId.{TurnId}
 use Rattle.dsm_protocol.specs.Own.{Own}
 use Rattle.dsm_protocol.specs.Jobs.{Note}
 use Rattle.dsm_protocol.specs.Stages.{Work}
-use Rattle.dsm_protocol.specs.Rows.{Step, Wins, Slip, Noted, loads, stores, sees_dir, seeks, settles, clears, registers, shares, wants, parts, looks, reads_map, marks, saves, saves_twin, saves_home, twins_broken, breaks, departs, sees_again, tests, claims, looks_again, withdraws, draws_enter, fills, fills_own, stamps_enter, enters, compares, judges, draws, sees_twin, copies, copies_over, merges, merges_own, merges_twin, stamps, has_twin, makes, makes_twin, made, sets, gives, sees_release, lasts, draws_send, tests_flush, flushes, flushes_same, flushes_twin, flushes_home, stamps_flush, reads_dir, posts, lowers, drops, untwins, unlists, finishes, sees_acquire, compares_own, judges_own, unmaps, empties, sees_bare, leaves, gives_over, draws_release, collects, drains, draws_notice, notices, flags, gives_notices, takes, seeks_holder, stops, faults, visits, returns, releases, hears, acquires, closes, accesses, waits, tells, finished, ends, halts, shared, unwanted, marked, claimed, at_home, read_only, flushed_all, unsent, posted, untold, unlowered, dropped, emptied, clean, released, unheard, heard, flagged, next_node, drained, taken, passed_over, closing, unclosing, unheld, closed, maps, soils, cleans, joins, appends_load, appends_store, goes, moves, passes, acquired, begins_copy, begins_fill, fetched, filled, broken, broadcast, sent, told, counts}
+use Rattle.dsm_protocol.specs.Rows.{Step, Wins, Slip, Noted, loads, stores, sees_dir, seeks, settles, clears, registers, shares, wants, parts, looks, reads_map, marks, saves, saves_twin, saves_home, twins_broken, breaks, departs, sees_again, tests, claims, looks_again, withdraws, draws_enter, fills, fills_own, stamps_enter, enters, compares, judges, draws, sees_twin, copies, copies_over, merges, merges_own, merges_twin, stamps, has_twin, makes, makes_twin, made, sets, gives, sees_release, lasts, draws_send, tests_flush, flushes, flushes_same, flushes_twin, flushes_home, stamps_flush, reads_dir, posts, lowers, drops, untwins, unlists, finishes, sees_acquire, compares_own, judges_own, unmaps, empties, sees_bare, leaves, gives_over, draws_release, collects, drains, draws_notice, notices, flags, gives_notices, takes, seeks_holder, stops, faults, visits, returns, releases, hears, acquires, closes, accesses, waits, tells, finished, ends, forsaken, despairs, shared, unwanted, marked, claimed, at_home, read_only, flushed_all, unsent, posted, untold, unlowered, dropped, emptied, clean, released, unheard, heard, flagged, next_node, drained, taken, passed_over, closing, unclosing, unheld, closed, maps, soils, cleans, joins, appends_load, appends_store, signals, admits, arrives, dismisses, goes, moves, passes, quits, acquired, begins_copy, begins_fill, fetched, filled, broken, broadcast, sent, told, counts}
 use Rattle.dsm_freshness.proofs.Words.{Scene}
 use Rattle.dsm_freshness.proofs.Frame.{RowActs, WinActs, SlipActs, NoteActs}
 use Rattle.dsm_freshness.proofs.Following.{EachActs}
@@ -13,10 +13,10 @@ use Rattle.dsm_freshness.proofs.AcquireRows.{row_compares_own, row_empties, row_
 use Rattle.dsm_freshness.proofs.FaultRows.{row_claims, row_clears, row_gives, row_loads, row_looks_again, row_parts, row_registers, row_seeks, row_sees_again, row_sees_dir, row_settles, row_shares, row_stores, row_tests, row_wants, row_withdraws, slip_accesses, slip_at_home, slip_claimed, slip_read_only, slip_shared, slip_unwanted, win_faults, win_returns}
 use Rattle.dsm_freshness.proofs.FetchRows.{note_appends_load, note_appends_store, note_begins_copy, note_begins_fill, note_fetched, note_filled, note_maps, note_soils, row_compares, row_copies, row_copies_over, row_draws, row_draws_enter, row_enters, row_fills, row_fills_own, row_has_twin, row_judges, row_made, row_makes, row_makes_twin, row_merges, row_merges_own, row_merges_twin, row_sees_twin, row_sets, row_stamps, row_stamps_enter}
 use Rattle.dsm_freshness.proofs.NoticeRows.{row_drains, row_gives_notices, row_takes}
-use Rattle.dsm_freshness.proofs.NoticeSlips.{note_acquired, note_passes, slip_drained, slip_heard, slip_next_node, slip_passed_over, slip_taken, slip_unheard, win_hears}
+use Rattle.dsm_freshness.proofs.NoticeSlips.{note_acquired, note_passes, note_quits, slip_drained, slip_heard, slip_next_node, slip_passed_over, slip_taken, slip_unheard, win_hears}
 use Rattle.dsm_freshness.proofs.SendRows.{note_sent, note_told, row_draws_send, row_drops, row_finishes, row_flushes, row_flushes_home, row_flushes_same, row_flushes_twin, row_lasts, row_lowers, row_posts, row_reads_dir, row_sees_release, row_stamps_flush, row_tests_flush, row_unlists, row_untwins, slip_clean, slip_dropped, slip_flushed_all, slip_posted, slip_released, slip_unlowered, slip_unsent, slip_untold, win_releases}
 use Rattle.dsm_freshness.proofs.TimeRows.{row_draws_notice, row_flags, row_notices, slip_flagged}
-use Rattle.dsm_freshness.proofs.VisitRows.{note_broadcast, note_broken, note_cleans, note_counts, note_gives, note_goes, note_joins, note_moves, row_breaks, row_collects, row_departs, row_draws_release, row_looks, row_marks, row_reads_map, row_saves, row_saves_home, row_saves_twin, row_seeks_holder, row_stops, row_twins_broken, slip_closed, slip_closing, slip_ends, slip_finished, slip_halts, slip_marked, slip_tells, slip_unclosing, slip_unheld, slip_waits, win_closes, win_visits}
+use Rattle.dsm_freshness.proofs.VisitRows.{note_broadcast, note_broken, note_cleans, note_counts, note_gives, note_goes, note_joins, note_moves, note_signals, note_admits, note_arrives, note_dismisses, row_breaks, row_collects, row_departs, row_draws_release, row_looks, row_marks, row_reads_map, row_saves, row_saves_home, row_saves_twin, row_seeks_holder, row_stops, row_twins_broken, slip_closed, slip_closing, slip_ends, slip_finished, slip_forsaken, slip_despairs, slip_marked, slip_tells, slip_unclosing, slip_unheld, slip_waits, win_closes, win_visits}
 
 rows : (c : Scene) (o : Own) {w : Work} {a : Act} {x : ℕ} {v : Work} (step : Step c.u o.maps o.dirty w a x v) → RowActs c o step
 rows c o (loads d) = row_loads c o d
@@ -114,7 +114,8 @@ slips c o waits = slip_waits c o
 slips c o tells = slip_tells c o
 slips c o finished = slip_finished c o
 slips c o ends = slip_ends c o
-slips c o halts = slip_halts c o
+slips c o forsaken = slip_forsaken c o
+slips c o despairs = slip_despairs c o
 slips c o shared = slip_shared c o
 slips c o (unwanted d) = slip_unwanted c o d
 slips c o marked = slip_marked c o
@@ -137,8 +138,8 @@ slips c o next_node = slip_next_node c o
 slips c o drained = slip_drained c o
 slips c o taken = slip_taken c o
 slips c o (passed_over d) = slip_passed_over c o d
-slips c o closing = slip_closing c o
-slips c o unclosing = slip_unclosing c o
+slips c o (closing d) = slip_closing c o d
+slips c o (unclosing d) = slip_unclosing c o d
 slips c o unheld = slip_unheld c o
 slips c o closed = slip_closed c o
 
@@ -149,10 +150,15 @@ notes c o cleans = note_cleans c o
 notes c o joins = note_joins c o
 notes c o (appends_load d) = note_appends_load c o d
 notes c o (appends_store d) = note_appends_store c o d
+notes c o (signals {of = of} {j = j} d other) = note_signals c o of j d other
+notes c o (admits {of = of} {c = k} d other) = note_admits c o of k d other
+notes c o (arrives {j = j} d) = note_arrives c o j d
+notes c o (dismisses {c = k} d) = note_dismisses c o k d
 notes c o (gives {d = q} {v = v} d) = note_gives c o q v d
 notes c o (goes {to = to} d) = note_goes c o to d
 notes c o (moves d) = note_moves c o d
 notes c o (passes d) = note_passes c o d
+notes c o (quits d) = note_quits c o d
 notes c o acquired = note_acquired c o
 notes c o begins_copy = note_begins_copy c o
 notes c o begins_fill = note_begins_fill c o

@@ -1,5 +1,5 @@
 -- By whom an event is made, and the turn that its maker holds.
-use Rattle.std.proofs.Common.{◌≡◌, ◌⊎◌, inl, inr, ℕ, ◌+◌, ◌*◌, ◌==◌, Bool, true, false, List, [], ◌∷◌, ◌++◌, Option, None, Some, refl, sym, ap, ◌∙◌, if◌then◌else◌}
+use Rattle.std.proofs.Common.{◌≡◌, ◌⊎◌, inl, inr, ℕ, ◌+◌, ◌*◌, ◌==◌, Bool, true, false, List, [], ◌∷◌, Option, None, Some, refl, sym, ap, ◌∙◌, if◌then◌else◌}
 use Rattle.std.specs.Prelude.{◌&&◌, ◌||◌, nat_lt}
 use Rattle.std.proofs.lemmas.Bool.{eqb-true}
 use Rattle.dsm_words.specs.Pages.{group_of, has_page}
@@ -9,7 +9,7 @@ use Rattle.dsm_clock.specs.declared.turns.TurnId.TheVariants.{Page, Notices}
 use Rattle.dsm_protocol.specs.Own.{Who, node_of}
 use Rattle.dsm_protocol.specs.Jobs.{Note}
 use Rattle.dsm_protocol.specs.Stages.{Work, turn_at}
-use Rattle.dsm_protocol.specs.Rows.{Step, Slip, Noted, sees_dir, clears, registers, breaks, sees_again, claims, withdraws, draws_enter, stamps_enter, enters, judges, draws, stamps, sets, gives, draws_send, stamps_flush, reads_dir, posts, unlists, sees_acquire, judges_own, unmaps, leaves, draws_release, drains, draws_notice, notices, flags, gives_notices, takes, flagged, passed_over, passes, acquired, begins_copy, begins_fill, fetched, filled, told}
+use Rattle.dsm_protocol.specs.Rows.{Step, Slip, Noted, sees_dir, clears, registers, breaks, sees_again, claims, withdraws, draws_enter, stamps_enter, enters, judges, draws, stamps, sets, gives, draws_send, stamps_flush, reads_dir, posts, unlists, sees_acquire, judges_own, unmaps, leaves, draws_release, drains, draws_notice, notices, flags, gives_notices, takes, flagged, passed_over, passes, quits, acquired, begins_copy, begins_fill, fetched, filled, told}
 use Rattle.dsm_fresh.specs.Pages.{Event, Reset, Register, Claim, Share, Leave, Draw, First, Last, Stamp, Enter, Current, Current_sole, Map, Done, Send, Pass_by, Post_bit, Tell, Break, Pass, Drain_none, Drain_some, Time, Notify, Flag, Flagged, Other_time, Other_notice, Other_flag, Give, Take, Skip, Unmap, Keep, Keep_sole, Settle, Tick}
 use Rattle.dsm_freshness.specs.Views.{is_set}
 use Rattle.dsm_freshness.specs.Events.{only, is_page, step_events, slip_events, note_events}
@@ -68,10 +68,6 @@ module _ (m n g : ℕ) where
   AllMade p t [] = Unit {0}
   AllMade p t (e ∷ es) = Made p t e × AllMade p t es
 
-  pub made_append : (p : ℕ) (t : Option TurnId) (es fs : List Event) → AllMade p t es → AllMade p t fs → AllMade p t (es ++ fs)
-  made_append p t [] fs a c = c
-  made_append p t (e ∷ es) fs a c = (a.0, made_append p t es fs a.1 c)
-
   module _ (u : Who) (t : Option TurnId) where
     abbrev By : List Event → Type 0
     By es = AllMade u.p t es
@@ -105,9 +101,6 @@ module _ (m n g : ℕ) where
     unless : (c : Bool) (es : List Event) → By es → By (if c then [] else es)
     unless true es h = tt
     unless false es h = h
-
-    noticed : node_of u ≡ n → t ≡ Some (Notices (node_of u)) → t ≡ Some (Notices n)
-    noticed e at = at ∙ ap Some (λ j. Notices (e j))
 
   module _ (u : Who) {ms : List ℕ} {ds : List Bool} where
     pub row_made : {w : Work} {a : Act} {x : ℕ} {v : Work} (step : Step u ms ds w a x v) → AllMade u.p (turn_at u w) (step_events m n g u step)
@@ -168,6 +161,7 @@ module _ (m n g : ℕ) where
 
   pub note_made : (u : Who) {w : Work} {i : Note} {v : Work} (noted : Noted u None w i v) → AllMade u.p (turn_at u w) (note_events m n g u noted)
   note_made u (passes none) = free u _ _ (Pass u.p) refl refl
+  note_made u (quits none) = free u _ _ (Pass u.p) refl refl
   note_made u acquired = free u _ _ (Settle u.p) refl refl
   note_made u (begins_copy {g = h}) = own u _ h (First u.p false) refl refl refl
   note_made u (begins_fill {g = h}) = own u _ h (First u.p true) refl refl refl

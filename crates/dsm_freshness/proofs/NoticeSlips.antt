@@ -3,25 +3,23 @@ use Rattle.std.proofs.Common.{◌≡◌, ◌≢◌, ◌⊎◌, inl, inr, ℕ, su
 use Rattle.std.specs.Prelude.{◌&&◌, not, nat_le, slice_index}
 use Rattle.std.specs.Int.{bit_at}
 use Rattle.std.proofs.lemmas.Bool.{cases_eq, eq-eqb, ne_eqb, eqb-true, le-leb, lt-leb, and_right}
-use Rattle.dsm_words.specs.declared.item.Item.{Item}
-use Rattle.dsm_words.specs.declared.item.Item.TheVariants.{Stop, Map, Dir, Update, Notice, Clock, Turn, NoticeTurn, Global, Own as OwnWord}
+use Rattle.dsm_words.specs.declared.item.Item.TheVariants.{NoticeTurn}
 use Rattle.dsm_words.specs.Place.{groups}
 use Rattle.dsm_words.specs.Pages.{group_of, has_page, pages_in}
-use Rattle.dsm_words.specs.Script.{Act, Get, item_of}
-use Rattle.dsm_words.specs.Words.{word, done}
+use Rattle.dsm_words.specs.Words.{word}
 use Rattle.dsm_clock.specs.declared.turns.TurnId.TheVariants.{Notices}
 use Rattle.dsm_protocol.specs.Own.{Own, node_of}
-use Rattle.dsm_protocol.specs.Stages.{Waiting, Passing, Finished, Draining, Hearing, Drained, Taking, Told, Off}
-use Rattle.dsm_protocol.specs.Standing.{IsObject, IsAside}
-use Rattle.dsm_protocol.specs.Rows.{map_at, hears, unheard, heard, next_node, drained, taken, passed_over, passes, acquired}
+use Rattle.dsm_protocol.specs.Stages.{Round, Admitted, Dismissed, Quitting, Passing, Finished, Draining, Hearing, Drained, Taking, Told, Off, round_turn}
+use Rattle.dsm_protocol.specs.Rows.{map_at, hears, unheard, heard, next_node, drained, taken, passed_over, passes, quits, acquired}
 use Rattle.dsm_protocol.proofs.Placed.{group_in}
 use Rattle.dsm_owners.specs.Stages as O
 use Rattle.dsm_fresh.specs.Pages.{Pass, Skip, Settle, happens}
 use Rattle.dsm_fresh.specs.Stages as S
 use Rattle.dsm_fresh.specs.Stages.{is_worker}
+use Rattle.dsm_freshness.specs.Events.{only}
 use Rattle.dsm_freshness.specs.Views.{acquire_view, looked}
 use Rattle.dsm_freshness.specs.Tied.{may_load}
-use Rattle.dsm_freshness.proofs.Words.{Scene, IsPart, match_still, untouched, put_same, first}
+use Rattle.dsm_freshness.proofs.Words.{Scene, match_still, put_same, first}
 use Rattle.dsm_freshness.proofs.AcquireRows.{le_next, past_it}
 use Rattle.dsm_freshness.proofs.NoticeRows.{if_false, all_three, three, all_but, looks_next, looks_over, looks_start, looks_end, in_group, rest_hand, rest_none, rest_past, rest_unset, rest_next}
 use Rattle.dsm_freshness.proofs.Frame as F
@@ -33,26 +31,6 @@ passed_not true false e d = absurd (cc e)
 passed_not false b e d = absurd (cc d)
 
 module _ (c : Scene) (o : Own) where
-  -- words of objects, and the stop word, are none of the copy's
-  object_off : (it : Item) → IsObject it → IsPart c it → ⊥
-  object_off (Dir k h) e i = e
-  object_off (Update k h) e i = e
-  object_off (Notice k h) e i = e
-  object_off (Clock k) e i = e
-  object_off (Global k j l) e i = e
-  object_off (OwnWord q l) e i = e
-  object_off (Map q h) e i = e
-  object_off (Turn k h) e i = e
-  object_off (NoticeTurn k) e i = e
-  object_off it e i = i
-
-  aside_off : (a : Act) → IsAside a → IsPart c (item_of a) → ⊥
-  aside_off (Get Stop) e i = i
-  aside_off a e i = object_off (item_of a) e i
-
-  pub row_aside : {a : Act} {x : ℕ} → IsAside a → F.Meets c (Off Waiting) o a x → F.Acted c (Off Waiting) (done c.u.lay c.ws a) []
-  row_aside {a} e f = record { runs = tt; match = untouched c a f.within (aside_off a e); knows = f.here.knows }
-
   -- the turn of the notices is won
   pub win_hears : F.WinActs c o hears
   win_hears f = record {
@@ -113,20 +91,26 @@ module _ (c : Scene) (o : Own) where
           bare : (c.f.processors c.u.p).mapped ≡ false
           bare = sym (c.match.mapped c.u.p c.at.p_in n) ∙ ap may_load (own ∙ ap (slice_index o.maps) (sym i) ∙ zero)
 
-  -- it has passed an object
-  pub note_passes : (e : None ≡ None) → F.NoteActs c o (passes e)
-  note_passes e f = F.only_if c (node_of c.u == c.n) (λ d. on (eqb-true (node_of c.u) c.n d)) (λ off. record { runs = tt; match = c.match; knows = F.off_knows c {r = Passing} c.f (λ n. absurd (cc (sym (eq-eqb (node_of c.u) c.n n) ∙ off))) (λ _ d. absurd (cc d)) })
+  -- it has passed an object: it was at rest, and its acquire or the closing work comes
+  pass_acts : (r t : Round) → acquire_view c.m c.n c.g (Off r) ≡ S.Rest → acquire_view c.m c.n c.g (Off t) ≡ S.Before → round_turn c.u t ≡ None → F.Here c (Off r) o → F.Acted c (Off t) c.ws (only (node_of c.u == c.n) (Pass c.u.p))
+  pass_acts r t rests comes none f = F.only_if c (node_of c.u == c.n) (λ d. on (eqb-true (node_of c.u) c.n d)) (λ off. record { runs = tt; match = c.match; knows = F.off_knows c {r = t} c.f (λ n. absurd (cc (sym (eq-eqb (node_of c.u) c.n n) ∙ off))) (λ _ d. absurd (cc (sym none ∙ d))) })
     where
       idle : (is_worker c.u.p c.f.page.work ≡ true) → ⊥
       idle w = let turn : (c.b.nodes c.n).turn ≡ suc c.u.p = sym (c.owned.turn c.n c.n_in) ∙ (c.match.worker c.u.p w).0 in
           absurd (cc (sym (ap (O.held (node_of c.u)) f.owns.at) ∙ (c.holds.fits c.n c.u.p).held_is turn))
 
-      on : node_of c.u ≡ c.n → F.Acted c (Off Passing) c.ws (Pass c.u.p ∷ [])
+      on : node_of c.u ≡ c.n → F.Acted c (Off t) c.ws (Pass c.u.p ∷ [])
       on n = record {
-        runs = ((F.off_stage c f n, F.not_true idle), tt);
+        runs = ((F.off_stage c f n ∙ rests, F.not_true idle), tt);
         match = match_still c (Pass c.u.p) c.match.worker c.match.drainer refl;
-        knows = F.off_knows c {r = Passing} (happens (first c) c.f (Pass c.u.p)) (λ _. ap (λ z. z.stage) (put_same c.f.processors c.u.p _)) (λ _ d. absurd (cc d));
+        knows = F.off_knows c {r = t} (happens (first c) c.f (Pass c.u.p)) (λ _. ap (λ z. z.stage) (put_same c.f.processors c.u.p _) ∙ sym comes) (λ _ d. absurd (cc (sym none ∙ d)));
       }
+
+  pub note_passes : (e : None ≡ None) → F.NoteActs c o (passes e)
+  note_passes e = pass_acts Admitted Passing refl refl refl
+
+  pub note_quits : (e : None ≡ None) → F.NoteActs c o (quits e)
+  note_quits e = pass_acts Dismissed Quitting refl refl refl
 
   -- all pages were looked at
   pub note_acquired : {set : List ℕ} → F.NoteActs c o (acquired {set = set})

@@ -2,6 +2,7 @@
 use Rattle.std.proofs.Common.{◌≡◌, ◌≢◌, ◌⊎◌, inl, inr, ℕ, suc, ◌+◌, ◌*◌, ◌<◌, ◌≤◌, ◌==◌, Bool, true, false, List, [], ◌∷◌, Option, None, Some, refl, sym, ap, ◌∙◌, subst, arith, if◌then◌else◌}
 use Rattle.std.specs.Prelude.{not, IfSome}
 use Rattle.std.proofs.lemmas.Bool.{cases_eq, eq-eqb, eqb-true}
+use Rattle.dsm_entry.specs.declared.entry.Obj.{Obj}
 use Rattle.dsm_words.specs.declared.item.Item.{Item}
 use Rattle.dsm_words.specs.declared.item.Item.TheVariants.{Dir, Turn}
 use Rattle.dsm_words.specs.Script.{Act, Get, Put, item_of}
@@ -11,7 +12,7 @@ use Rattle.dsm_directory.specs.Directory.{is_busy}
 use Rattle.dsm_protocol.specs.Own.{Own, node_of}
 use Rattle.dsm_protocol.specs.Jobs.{Note}
 use Rattle.dsm_protocol.specs.Stages.{Cause, Fault, Closing, Stage, Visiting, Looking, Ending, Broken, Parted, Round, Closes, Holder, Work, Off, On, Gone, stage_turn, round_turn, held_alone}
-use Rattle.dsm_protocol.specs.Rows.{IsPlain, looks, reads_map, marks, saves, saves_twin, saves_home, twins_broken, breaks, departs, draws_release, collects, seeks_holder, stops, visits, closes, waits, tells, finished, ends, halts, marked, closing, unclosing, unheld, closed, cleans, joins, gives, goes, moves, broken, broadcast, counts}
+use Rattle.dsm_protocol.specs.Rows.{IsPlain, is_close, looks, reads_map, marks, saves, saves_twin, saves_home, twins_broken, breaks, departs, draws_release, collects, seeks_holder, stops, visits, closes, waits, tells, finished, ends, forsaken, despairs, marked, closing, unclosing, unheld, closed, cleans, joins, signals, admits, arrives, dismisses, gives, goes, moves, broken, broadcast, counts}
 use Rattle.dsm_owners.specs.Stages as O
 use Rattle.dsm_owners.specs.Laws.{IsBare}
 use Rattle.dsm_owners.proofs.Every.{Facts, facts_of}
@@ -260,14 +261,17 @@ module _ (c : Scene) where
     pub slip_ends : F.SlipActs c o ends
     slip_ends own f = record { runs = tt; match = c.match; knows = gone }
 
-    pub slip_halts : F.SlipActs c o halts
-    slip_halts own f = record { runs = tt; match = c.match; knows = gone }
+    pub slip_despairs : F.SlipActs c o despairs
+    slip_despairs own f = off_slip f.knows refl (λ _. refl)
 
-    pub slip_closing : F.SlipActs c o closing
-    slip_closing own f = off_slip f.knows refl (λ _. refl)
+    pub slip_forsaken : F.SlipActs c o forsaken
+    slip_forsaken own f = record { runs = tt; match = c.match; knows = gone }
 
-    pub slip_unclosing : F.SlipActs c o unclosing
-    slip_unclosing own f = off_slip f.knows refl (λ _. refl)
+    pub slip_closing : (e : (c.u.p == 0) ≡ true) → F.SlipActs c o (closing e)
+    slip_closing e own f = off_slip f.knows refl (λ _. refl)
+
+    pub slip_unclosing : (e : (c.u.p == 0) ≡ false) → F.SlipActs c o (unclosing e)
+    slip_unclosing e own f = off_slip f.knows refl (λ _. refl)
 
     pub slip_unheld : {g : ℕ} → F.SlipActs c o (unheld {g = g})
     slip_unheld own f = off_slip f.knows refl (λ _. refl)
@@ -280,6 +284,18 @@ module _ (c : Scene) where
 
     pub note_joins : {t0 : ℕ} {set : List ℕ} → F.NoteActs c o (joins {t0 = t0} {set = set})
     note_joins f = off_slip f.knows refl (λ _. refl)
+
+    pub note_signals : {t0 : ℕ} (of : Obj) (j : ℕ) (none : None ≡ None) (other : is_close of ≡ false) → F.NoteActs c o (signals {t0 = t0} {of = of} {j = j} none other)
+    note_signals of j none other f = off_slip f.knows refl (λ _. refl)
+
+    pub note_admits : (of : Obj) (k : ℕ) (none : None ≡ None) (other : is_close of ≡ false) → F.NoteActs c o (admits {of = of} {c = k} none other)
+    note_admits of k none other f = off_slip f.knows refl (λ _. refl)
+
+    pub note_arrives : {t0 : ℕ} (j : ℕ) (none : None ≡ None) → F.NoteActs c o (arrives {t0 = t0} {j = j} none)
+    note_arrives j none f = off_slip f.knows refl (λ _. refl)
+
+    pub note_dismisses : (k : ℕ) (none : None ≡ None) → F.NoteActs c o (dismisses {c = k} none)
+    note_dismisses k none f = off_slip f.knows refl (λ _. refl)
 
     pub note_gives : (d v : ℕ) (none : None ≡ None) → F.NoteActs c o (gives {d = d} {v = v} none)
     note_gives d v none f = off_slip f.knows refl (λ _. refl)

@@ -5,7 +5,7 @@ use Rattle.dsm_words.specs.Script.{Act}
 use Rattle.dsm_protocol.specs.Own.{Who, node_of}
 use Rattle.dsm_protocol.specs.Jobs.{Note}
 use Rattle.dsm_protocol.specs.Stages.{Work}
-use Rattle.dsm_protocol.specs.Rows.{Step, Slip, Noted, sees_dir, clears, registers, breaks, sees_again, claims, withdraws, draws_enter, stamps_enter, enters, judges, draws, stamps, sets, gives, draws_send, stamps_flush, reads_dir, posts, unlists, sees_acquire, judges_own, unmaps, leaves, draws_release, drains, draws_notice, notices, flags, gives_notices, takes, flagged, passed_over, passes, acquired, begins_copy, begins_fill, fetched, filled, told}
+use Rattle.dsm_protocol.specs.Rows.{Step, Slip, Noted, sees_dir, clears, registers, breaks, sees_again, claims, withdraws, draws_enter, stamps_enter, enters, judges, draws, stamps, sets, gives, draws_send, stamps_flush, reads_dir, posts, unlists, sees_acquire, judges_own, unmaps, leaves, draws_release, drains, draws_notice, notices, flags, gives_notices, takes, flagged, passed_over, passes, quits, acquired, begins_copy, begins_fill, fetched, filled, told}
 use Rattle.dsm_fresh.specs.Pages.{Event, Reset, Register, Claim, Share, Leave, Draw, First, Last, Stamp, Enter, Current, Current_sole, Map, Done, Send, Pass_by, Post_bit, Tell, Break, Pass, Drain_none, Drain_some, Time, Notify, Flag, Flagged, Other_time, Other_notice, Other_flag, Give, Take, Skip, Unmap, Keep, Keep_sole, Settle, Tick}
 use Rattle.dsm_freshness.specs.Views.{is_set}
 
@@ -70,6 +70,7 @@ module _ (m n g : ℕ) (u : Who) where
   -- of a note
   abbrev pub note_events : {w : Work} {i : Note} {v : Work} → Noted u None w i v → List Event
   note_events (passes none) = only is_own (Pass u.p)
+  note_events (quits none) = only is_own (Pass u.p)
   note_events acquired = only is_own (Settle u.p)
   note_events (begins_copy {g = h}) = only (h == g && is_own) (First u.p false)
   note_events (begins_fill {g = h}) = only (h == g && is_own) (First u.p true)

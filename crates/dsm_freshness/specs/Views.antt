@@ -3,7 +3,7 @@ use Rattle.std.specs.Prelude.{ℕ, ◌+◌, ◌*◌, ◌%◌, ◌==◌, ◌&&◌
 use Rattle.std.specs.Int.{bit_at}
 use Rattle.dsm_words.specs.Pages.{group_of, has_page}
 use Rattle.dsm_protocol.specs.Own.{Who, node_of}
-use Rattle.dsm_protocol.specs.Stages.{Part, Whole, First, Stage, Mapped, Entered, Filling, Filled, Compared, Opened, Copying, Copied, Current, Making, Setting, Soiling, Giving, Posting, Telling, Posted, Acquiring, Judging, Judged, Unmapping, Passing, Draining, Hearing, Noticing, Flagging, Drained, Taking, Told, Closes, Holder, Closed, Work, Off, On}
+use Rattle.dsm_protocol.specs.Stages.{Part, Whole, First, Stage, Mapped, Entered, Filling, Filled, Compared, Opened, Copying, Copied, Current, Making, Setting, Soiling, Giving, Posting, Telling, Posted, Acquiring, Judging, Judged, Unmapping, Quitting, Passing, Draining, Hearing, Noticing, Flagging, Drained, Taking, Told, Closes, Holder, Closed, Work, Off, On}
 use Rattle.dsm_fresh.specs.Stages as F
 
 -- the fetch of processor q of the node, which began when e sends had ended: an enter's or not; before its first word, in it
@@ -65,6 +65,7 @@ module _ (m n g : ℕ) where
   -- where it stands in its acquire
   abbrev pub acquire_view : Work → F.Stage
   acquire_view (Off Passing) = F.Before
+  acquire_view (Off Quitting) = F.Before
   acquire_view (Off (Draining j k)) = looked (nat_lt m j || (m == j && nat_lt (group_of g) k))
   acquire_view (Off (Hearing j k bits b)) = looked (nat_lt m j || (m == j && nat_le (group_of g) k))
   acquire_view (Off (Noticing j k bits b t)) = looked (nat_lt m j || (m == j && nat_le (group_of g) k))

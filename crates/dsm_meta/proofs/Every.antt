@@ -5,9 +5,9 @@ use Rattle.dsm_runs.proofs.Legality.{every_sync_legal}
 use Rattle.dsm_runs.proofs.Mappings.{leaves_other_mappings}
 use Rattle.dsm_runs.proofs.Seating.{maps_are_its_own, no_circle}
 use Rattle.dsm_ties.specs.Always.{AlwaysLoosely}
+use Rattle.dsm_ties.proofs.Along.{tied}
 use Rattle.dsm_ties.proofs.Holders.{untouched}
 use Rattle.dsm_ties.proofs.Homes.{homes_stay}
-use Rattle.dsm_ties.proofs.Joining.{tied}
 use Rattle.dsm_meta.specs.Facts.{SyncIsLegal, OwnMaps, SomeGoesOn, SparesMappings, HomeFixed}
 
 pub sync_is_legal : AlwaysLoosely SyncIsLegal

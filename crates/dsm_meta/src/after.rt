@@ -3,6 +3,7 @@ ghost use Rattle.std.specs.Prelude.{◌≡◌, ◌<◌, ◌*◌, All, IfOk};
 ghost use Rattle.dsm_runs.specs.Clusters.{IsReached};
 ghost use Rattle.dsm_ties.specs.Clocks.{ClockBound, ClocksStand};
 ghost use Rattle.dsm_ties.specs.Holders.{OneHolder, UnregisteredUnmapped, WritersTwinned, HomeBare, HomelessUntouched, HomelessUnwritten};
+ghost use Rattle.dsm_freshness.specs.Past.{FreshCopies};
 ghost use Rattle.dsm_core.specs.States.{setup_of, setup_in, cluster_in, IsFor};
 ghost use Rattle.dsm_meta.specs.Facts.{SyncIsLegal, OwnMaps, TurnHolders, SomeGoesOn, SparesMappings, HomeFixed};
 ghost use Rattle.dsm_meta.specs.Following.{Followed, HoldsIn};
@@ -56,9 +57,12 @@ pub fn pages_after(
     ensures writers { IfOk result (λ st. HoldsIn WritersTwinned program.now st) }
     // the home has no twin,
     ensures home_bare { IfOk result (λ st. HoldsIn HomeBare program.now st) }
-    // and a page without a home is used by no node, and has the words with which it started.
+    // a page without a home is used by no node, and has the words with which it started,
     ensures untouched { IfOk result (λ st. HoldsIn HomelessUntouched program.now st) }
     ensures unwritten { IfOk result (λ st. HoldsIn HomelessUnwritten program.now st) }
+    // and where a processor at rest maps a page away from its home, its node has fetched it since the end of each send by
+    // another node that was told before one of its passes; and at rest or not, it has fetched it at all.
+    ensures fresh { IfOk result (λ st. HoldsIn FreshCopies program.now st) }
 {
     let mut state = State::start(alloc, program, t, limits)?;
     for p in schedule {

@@ -2,6 +2,7 @@
 ghost use Rattle.dsm_ties.specs.Always.{AlwaysLoosely};
 ghost use Rattle.dsm_ties.specs.Clocks.{ClockBound, ClocksStand};
 ghost use Rattle.dsm_ties.specs.Holders.{OneHolder, UnregisteredUnmapped, WritersTwinned, HomeBare, HomelessUntouched, HomelessUnwritten};
+ghost use Rattle.dsm_freshness.specs.Past.{FreshCopies};
 ghost use Rattle.dsm_meta.specs.Facts.{SyncIsLegal, OwnMaps, TurnHolders, SomeGoesOn, SparesMappings, HomeFixed};
 
 /// What holds of every state, over every list of events, whatever the loads of frames and twins answer. It does nothing:
@@ -35,4 +36,7 @@ pub fn every_loose()
     // A page without a home is used by no node, and has the words with which it started.
     ensures untouched { AlwaysLoosely HomelessUntouched }
     ensures unwritten { AlwaysLoosely HomelessUnwritten }
+    // Where a processor at rest maps a page away from its home, its node has fetched it since the end of each send by another
+    // node that was told before one of its passes; and at rest or not, it has fetched it at all.
+    ensures fresh { AlwaysLoosely FreshCopies }
 {}

@@ -12,7 +12,7 @@ use Rattle.dsm_notice.specs.Notices.{flag_from, hear, hear_from, drain_groups, d
 use Rattle.dsm_protocol.specs.Own.{Own, Who, node_of, mapping}
 use Rattle.dsm_protocol.specs.Jobs.{Job, call}
 use Rattle.dsm_protocol.specs.Steps.{give_job, unmap_job, check_job, acquire_page, acquire_from, acquire_job, closing_page, closing_from, closing_job}
-use Rattle.dsm_protocol.specs.Stages.{Closing, For_closing, Stage, Judging, Unmapping, Emptying, Emptied, Leaving, Over, Passing, Finished, Closed, Draining, Hearing, Flagging, Drained, Taking, Told, Closes, Holder, Round, Off, On}
+use Rattle.dsm_protocol.specs.Stages.{Closing, For_closing, Stage, Judging, Unmapping, Emptying, Emptied, Leaving, Over, Quitting, Passing, Finished, Closed, Draining, Hearing, Flagging, Drained, Taking, Told, Closes, Holder, Round, Off, On}
 use Rattle.dsm_protocol.specs.Rows.{looks, sees_acquire, compares_own, judges_own, unmaps, empties, sees_bare, leaves, gives_over, drains, draws_notice, notices, flags, gives_notices, takes, seeks_holder, hears, acquires, closes, unclosing, emptied, unheard, heard, flagged, next_node, drained, taken, passed_over, closing, unheld, closed, maps, acquired, counts}
 use Rattle.dsm_protocol.specs.Standing.{Works, Makes, Takes, Marks, Asks, Slips}
 use Rattle.dsm_protocol.proofs.Placed.{IsPlaced, rows}
@@ -121,17 +121,17 @@ module _ (u : Who) (at : IsPlaced u) (rest : Option Job) where
   closes_on {j} g zero o w r = subst (λ z. Works u rest (Off (Closes z 0)) o j) (omega (arith, w)) (Slips closed (r o))
   closes_on {j} g (suc k) o w r = holding g 0 u.lay.nodes o _ (omega (arith, w)) (omega arith) (closes_on (g + 1) k o (omega (arith, w)) r) (λ m m_in. close_on g (omega (arith, w)) m m_in o (λ p. closes_on (g + 1) k p (omega (arith, w)) r))
 
-  closing_all : {j : Job} (o : Own) → ((p : Own) → Works u rest (Off Closed) p j) → Works u rest (Off Passing) o (closing_job u j)
-  closing_all {j} o r = go (u.p == 0)
+  closing_all : {j : Job} (o : Own) → ((p : Own) → Works u rest (Off Closed) p j) → Works u rest (Off Quitting) o (closing_job u j)
+  closing_all {j} o r = go (u.p == 0) refl
     where
-      go : (b : Bool) → Works u rest (Off Passing) o (if b then closing_from u 0 u.lay.pages j else j)
-      go true = Slips closing (closes_on 0 u.lay.pages o (omega arith) r)
-      go false = Slips unclosing (r o)
+      go : (b : Bool) → (u.p == 0) ≡ b → Works u rest (Off Quitting) o (if b then closing_from u 0 u.lay.pages j else j)
+      go true first = Slips (closing first) (closes_on 0 u.lay.pages o (omega arith) r)
+      go false other = Slips (unclosing other) (r o)
 
 -- an acquire
 pub acquire_typed : (u : Who) (at : IsPlaced u) {rest : Option Job} {j : Job} (o : Own) → ((p : Own) → Works u rest (Off Finished) p j) → Works u rest (Off Passing) o (acquire_job u j)
 acquire_typed u at o r = acquiring u at _ o r
 
 -- the closing work
-pub closing_typed : (u : Who) (at : IsPlaced u) {rest : Option Job} {j : Job} (o : Own) → ((p : Own) → Works u rest (Off Closed) p j) → Works u rest (Off Passing) o (closing_job u j)
+pub closing_typed : (u : Who) (at : IsPlaced u) {rest : Option Job} {j : Job} (o : Own) → ((p : Own) → Works u rest (Off Closed) p j) → Works u rest (Off Quitting) o (closing_job u j)
 closing_typed u at o r = closing_all u at _ o r

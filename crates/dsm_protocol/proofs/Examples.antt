@@ -6,7 +6,7 @@ use Rattle.dsm_clock.specs.declared.turns.TurnId.TheVariants.{Page, Notices}
 use Rattle.dsm_directory.specs.Directory.{is_busy}
 use Rattle.dsm_protocol.specs.Own.{Write_faults, Overwrites, Twins, Flushes, Notices as Notice_counts, Unmaps, Breaks}
 use Rattle.dsm_protocol.specs.Jobs.{Give, Move, Append, Map_own, Soil, Clean, Join, Count, Happen, Passed, Acquired, Sent, Told, Began, Fetched}
-use Rattle.dsm_protocol.specs.Rows.{stores, sees_dir, seeks, clears, registers, shares, wants, parts, looks, reads_map, marks, saves, saves_twin, saves_home, twins_broken, breaks, departs, sees_again, compares, judges, draws, sees_twin, copies, copies_over, stamps, has_twin, makes, makes_twin, made, sets, gives, sees_release, lasts, draws_send, tests_flush, flushes, flushes_same, flushes_twin, flushes_home, stamps_flush, reads_dir, posts, lowers, drops, untwins, finishes, sees_acquire, compares_own, judges_own, unmaps, empties, sees_bare, leaves, gives_over, draws_release, collects, drains, draws_notice, notices, flags, gives_notices, takes, faults, visits, returns, releases, hears, acquires, accesses, waits, finished, shared, marked, flushed_all, posted, dropped, emptied, released, unheard, heard, flagged, next_node, drained, taken, passed_over, maps, soils, cleans, joins, appends_store, moves, passes, acquired, begins_copy, fetched, broken, broadcast, sent, told, counts}
+use Rattle.dsm_protocol.specs.Rows.{stores, sees_dir, seeks, clears, registers, shares, wants, parts, looks, reads_map, marks, saves, saves_twin, saves_home, twins_broken, breaks, departs, sees_again, compares, judges, draws, sees_twin, copies, copies_over, stamps, has_twin, makes, makes_twin, made, sets, gives, sees_release, lasts, draws_send, tests_flush, flushes, flushes_same, flushes_twin, flushes_home, stamps_flush, reads_dir, posts, lowers, drops, untwins, finishes, sees_acquire, compares_own, judges_own, unmaps, empties, sees_bare, leaves, gives_over, draws_release, collects, drains, draws_notice, notices, flags, gives_notices, takes, faults, visits, returns, releases, hears, acquires, accesses, waits, finished, shared, marked, flushed_all, posted, dropped, emptied, released, unheard, heard, flagged, next_node, drained, taken, passed_over, maps, soils, cleans, joins, appends_store, signals, admits, moves, passes, acquired, begins_copy, fetched, broken, broadcast, sent, told, counts}
 use Rattle.dsm_protocol.specs.Standing.{Stay, Decides, Notes, Row, Won, Lost, Aside}
 use Rattle.dsm_protocol.specs.Examples.{Makes, Follows, Arrived, Then, who, code, no_pages, at_first, locked, written, unlocked, locking, faulting, unlocking, locking_again}
 
@@ -43,9 +43,9 @@ locks = (refl, refl, refl)
 
 pub locks_by_rows : Follows who locking
 locks_by_rows =
-    Then (Aside tt) (Decides finished (Notes (Give 1 7) (gives refl) (Decides waits Stay))) (
-    Then (Aside tt) Stay (
-    Then (Aside tt) (Notes (Append (Pass (Lock 0) 0)) (counts refl) (Notes (Happen (Passed 1)) (passes refl) Stay)) (
+    Then (Aside tt tt) (Decides finished (Notes (Give 1 7) (gives refl) (Decides waits Stay))) (
+    Then (Aside tt tt) Stay (
+    Then (Aside tt tt) (Notes (Append (Pass (Lock 0) 0)) (admits refl refl) (Notes (Happen (Passed 1)) (passes refl) Stay)) (
     Then (Won (Notices 1) n1 hears refl) Stay (
     Then (Row (n1, n0, g0) drains) (Decides (unheard refl) (Decides heard (Decides next_node Stay))) (
     Then (Row (n1, n1, g0) drains) (Decides (unheard refl) (Decides heard (Decides next_node Stay))) (
@@ -131,15 +131,15 @@ unlocks_by_rows =
     Then (Row (n1, g0) (drops (omega arith) (omega arith))) (Decides dropped Stay) (
     Then (Row (n1, g0) untwins) Stay (
     Then (Row (n1, g0) finishes) (Notes (Clean 0) cleans (Decides released Stay)) (
-    Then (Aside tt) (Notes (Append (Signal (Lock 0) 0)) (counts refl) (Decides finished (Notes Move (moves refl) (Decides waits Stay)))) Arrived)))))))))))))))))))))))
+    Then (Aside tt tt) (Notes (Append (Signal (Lock 0) 0)) (signals refl refl) (Decides finished (Notes Move (moves refl) (Decides waits Stay)))) Arrived)))))))))))))))))))))))
 
 pub locks_again : Makes who code unlocked locking_again
 locks_again = (refl, refl, refl)
 
 pub locks_again_by_rows : Follows who locking_again
 locks_again_by_rows =
-    Then (Aside tt) Stay (
-    Then (Aside tt) (Notes (Append (Pass (Lock 0) 2)) (counts refl) (Notes (Happen (Passed 1)) (passes refl) Stay)) (
+    Then (Aside tt tt) Stay (
+    Then (Aside tt tt) (Notes (Append (Pass (Lock 0) 2)) (admits refl refl) (Notes (Happen (Passed 1)) (passes refl) Stay)) (
     Then (Won (Notices 1) n1 hears refl) Stay (
     Then (Row (n1, n0, g0) drains) (Decides (unheard refl) (Decides heard (Decides next_node Stay))) (
     Then (Row (n1, n1, g0) drains) (Decides (unheard refl) (Decides heard (Decides next_node Stay))) (

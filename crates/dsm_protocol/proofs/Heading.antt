@@ -1,5 +1,5 @@
 -- Every head's job goes by the table.
-use Rattle.std.proofs.Common.{◌≡◌, ℕ, zero, suc, ◌-◌, ◌*◌, ◌/◌, ◌%◌, ◌^◌, ◌<◌, ◌==◌, Bool, true, false, List, None, refl, sym, arith, if◌then◌else◌}
+use Rattle.std.proofs.Common.{◌≡◌, ℕ, zero, suc, ◌-◌, ◌*◌, ◌/◌, ◌%◌, ◌^◌, ◌<◌, ◌==◌, Bool, true, false, List, None, refl, arith, if◌then◌else◌}
 use Rattle.std.specs.Prelude.{nat_le}
 use Rattle.std.proofs.Math.Nat.{mod-lt}
 use Rattle.dsm_isa.specs.declared.instr.Instr.{Instr}
@@ -22,10 +22,10 @@ use Rattle.dsm_protocol.specs.declared.head.Head.{Head}
 use Rattle.dsm_protocol.specs.declared.head.Head.TheVariants.{Instruction, Locking, Looking}
 use Rattle.dsm_protocol.specs.Own.{Own, Who, setting_of, mapping}
 use Rattle.dsm_protocol.specs.Jobs.{Job, Make, Begin, Ended, call}
-use Rattle.dsm_protocol.specs.Steps.{next_instruction, address_item, is_last, stop_job, heed_job, unready_job, tried_job, lock_job, looked_job, look_job, passed_job, fault_job, allows, page_of, access_job, load_job, store_job, meet_job, action_job, head_job, starved_job}
-use Rattle.dsm_protocol.specs.Stages.{Idle, Waiting, Passing, Finished, Stopping, Access, Work, Off, Gone}
-use Rattle.dsm_protocol.specs.Rows.{Allowed, loads, stores, stops, accesses, waits, tells, finished, ends, halts, appends_load, appends_store, gives, goes, moves, passes, counts}
-use Rattle.dsm_protocol.specs.Standing.{at_head, IsAside, Works, Makes, Marks, Asks, Slips, Asides, Begins, Ends}
+use Rattle.dsm_protocol.specs.Steps.{next_instruction, address_item, is_last, stop_job, heed_job, unready_job, tried_job, lock_job, looked_job, look_job, fault_job, allows, page_of, access_job, load_job, store_job, meet_job, action_job, head_job, starved_job}
+use Rattle.dsm_protocol.specs.Stages.{Round, Idle, Waiting, Signalling, Arrived, Finished, Stopping, Access, Work, Off, Gone}
+use Rattle.dsm_protocol.specs.Rows.{Allowed, loads, stores, stops, accesses, waits, tells, finished, ends, forsaken, despairs, appends_load, appends_store, signals, admits, arrives, dismisses, quits, gives, goes, moves, passes, counts}
+use Rattle.dsm_protocol.specs.Standing.{at_head, is_halt, IsAside, IsOpen, Works, Makes, Marks, Asks, Slips, Asides, Begins, Ends, Halts}
 use Rattle.dsm_protocol.proofs.Placed.{IsPlaced}
 use Rattle.dsm_protocol.proofs.Inside.{page_in}
 use Rattle.dsm_protocol.proofs.Faulting.{fault_typed}
@@ -45,8 +45,8 @@ module _ (u : Who) (at : IsPlaced u) where
   abbrev From : Work → Job → Type 0
   From w j = (o : Own) → Works u None w o j
 
-  aside : {a : Act} {k : ℕ → Job} (o : Own) → IsAside a → ((x : ℕ) → From (Off Waiting) (k x)) → Works u None (Off Waiting) o (Make a k)
-  aside o is k = Asides refl is (λ x. k x o)
+  aside : {r : Round} {a : Act} {k : ℕ → Job} (o : Own) → IsOpen r → IsAside a → ((x : ℕ) → From (Off r) (k x)) → Works u None (Off r) o (Make a k)
+  aside o may is k = Asides refl may is (λ x. k x o)
 
   -- the instruction is done
   next_typed : From (Off Finished) next_instruction
@@ -55,62 +55,84 @@ module _ (u : Who) (at : IsPlaced u) where
   passed_by : From (Off Waiting) next_instruction
   passed_by o = Slips finished (next_typed o)
 
-  ended : (e : Ending) → From (Off Finished) (Ended e)
-  ended e o = Slips ends (Ends refl)
+  ended : (e : Ending) → is_halt e ≡ false → From (Off Finished) (Ended e)
+  ended e other o = Slips ends (Ends refl other)
 
   -- it tells all others to stop
-  stopping : (e : Ending) → From (Off Stopping) (stop_job u e)
-  stopping e o = Makes {next = λ _. Gone} tt (λ x. stops) (λ x. Ends refl)
+  stopping : (e : Ending) → is_halt e ≡ false → From (Off Stopping) (stop_job u e)
+  stopping e other o = Makes {next = λ _. Gone} tt (λ x. stops) (λ x. Ends refl other)
 
-  stop_typed : (e : Ending) → From (Off Waiting) (stop_job u e)
-  stop_typed e o = Slips tells (stopping e o)
+  stop_typed : (e : Ending) → is_halt e ≡ false → From (Off Waiting) (stop_job u e)
+  stop_typed e other o = Slips tells (stopping e other o)
 
-  heed_typed : (again : Head) (x : ℕ) → at_head again ≡ Waiting → From (Off Waiting) (heed_job again x)
-  heed_typed again x is o = go (x == 0)
+  -- it looks at an object there, at which it may be stopped, or look for the last time
+  abbrev IsLooking : Round → Type 0
+  IsLooking Waiting = Unit {0}
+  IsLooking Arrived = Unit {0}
+  IsLooking r = ⊥
+
+  looking_open : (r : Round) → IsLooking r → IsOpen r
+  looking_open Waiting at_object = tt
+  looking_open Arrived at_object = tt
+  looking_open r at_object = absurd at_object
+
+  stopped_typed : (r : Round) → IsLooking r → (e : Ending) → is_halt e ≡ false → From (Off r) (Ended e)
+  stopped_typed Waiting at_object e other o = Slips finished (ended e other o)
+  stopped_typed Arrived at_object e other o = Slips forsaken (Ends refl other)
+  stopped_typed r at_object e other o = absurd at_object
+
+  last_typed : (r : Round) → IsLooking r → From (Off r) (stop_job u Looked)
+  last_typed Waiting at_object o = stop_typed Looked refl o
+  last_typed Arrived at_object o = Slips despairs (stopping Looked refl o)
+  last_typed r at_object o = absurd at_object
+
+  heed_typed : (again : Head) (x : ℕ) → IsLooking (at_head again) → From (Off (at_head again)) (heed_job again x)
+  heed_typed again x at_object o = go (x == 0)
     where
-      begins : Works u None (Off Waiting) o (Begin again)
-      begins = rw (sym is) (Begins refl)
+      go : (b : Bool) → Works u None (Off (at_head again)) o (if b then Begin again else Ended (Stopped ((x - 1) % 2 ^ 32)))
+      go true = Begins refl
+      go false = stopped_typed (at_head again) at_object _ refl o
 
-      go : (b : Bool) → Works u None (Off Waiting) o (if b then Begin again else Ended (Stopped ((x - 1) % 2 ^ 32)))
-      go true = begins
-      go false = Slips finished (ended _ o)
-
-  unready_typed : (again : Head) → at_head again ≡ Waiting → From (Off Waiting) (unready_job u again)
-  unready_typed again is o = Marks (counts refl) (Asks (λ p. go p (is_last u.limits.looks p.counts.unready)))
+  unready_typed : (again : Head) → IsLooking (at_head again) → From (Off (at_head again)) (unready_job u again)
+  unready_typed again at_object o = Marks (counts refl) (Asks (λ p. go p (is_last u.limits.looks p.counts.unready)))
     where
-      go : (p : Own) (b : Bool) → Works u None (Off Waiting) p (if b then stop_job u Looked else Make (Get Stop) (heed_job again))
-      go p true = stop_typed Looked p
-      go p false = aside p tt (λ x. heed_typed again x is)
+      go : (p : Own) (b : Bool) → Works u None (Off (at_head again)) p (if b then stop_job u Looked else Make (Get Stop) (heed_job again))
+      go p true = last_typed (at_head again) at_object p
+      go p false = aside p (looking_open (at_head again) at_object) tt (λ x. heed_typed again x at_object)
 
   tried_typed : (l : ℕ) (got : Got) → From (Off Waiting) (tried_job u l got)
-  tried_typed l (Ready c) o = Marks (counts refl) (Marks (passes refl) (acquire_typed u at _ next_typed))
-  tried_typed l Unready o = unready_typed (Locking l) refl o
+  tried_typed l (Ready c) o = Marks (admits refl refl) (Marks (passes refl) (acquire_typed u at _ next_typed))
+  tried_typed l Unready o = unready_typed (Locking l) tt o
 
   lock_typed : (l : ℕ) → From (Off Waiting) (lock_job u l)
-  lock_typed l o = aside o tt (λ x. go x (x % 2 == 0))
+  lock_typed l o = aside o tt tt (λ x. go x (x % 2 == 0))
     where
       go : (x : ℕ) (b : Bool) → From (Off Waiting) (call (if b then take_script l x else End Unready) (tried_job u l))
-      go x true p = aside p tt (λ y. tried_typed l (if y == x then Ready (x / 2) else Unready))
+      go x true p = aside p tt tt (λ y. tried_typed l (if y == x then Ready (x / 2) else Unready))
       go x false p = tried_typed l Unready p
 
-  passed_typed : (of : Counter) → From (Off Passing) (passed_job u of)
-  passed_typed (Barrier b) o = acquire_typed u at o next_typed
-  passed_typed (Flag f) o = acquire_typed u at o next_typed
-  passed_typed Close o = closing_typed u at o (λ p. Slips halts (Ends refl))
+  -- where the word of an object is looked at
+  abbrev Looks : Counter → ℕ → Work
+  Looks of need = Off (at_head (Looking of need))
 
-  looked_typed : (of : Counter) (need : ℕ) (got : Got) → From (Off Waiting) (looked_job u of need got)
-  looked_typed of need (Ready c) o = Marks (counts refl) (Marks (passes refl) (passed_typed of _))
-  looked_typed of need Unready o = unready_typed (Looking of need) refl o
+  looked_typed : (of : Counter) (need : ℕ) (got : Got) → From (Looks of need) (looked_job u of need got)
+  looked_typed (Barrier b) need (Ready c) o = Marks (admits refl refl) (Marks (passes refl) (acquire_typed u at _ next_typed))
+  looked_typed (Flag f) need (Ready c) o = Marks (admits refl refl) (Marks (passes refl) (acquire_typed u at _ next_typed))
+  looked_typed Close need (Ready c) o = Marks (dismisses refl) (Marks (quits refl) (closing_typed u at _ (λ p. Halts refl)))
+  looked_typed (Barrier b) need Unready o = unready_typed (Looking (Barrier b) need) tt o
+  looked_typed (Flag f) need Unready o = unready_typed (Looking (Flag f) need) tt o
+  looked_typed Close need Unready o = unready_typed (Looking Close need) tt o
 
-  look_typed : (of : Counter) (need : ℕ) → From (Off Waiting) (look_job u of need)
-  look_typed (Barrier b) need o = aside o tt (λ x. looked_typed (Barrier b) need (if nat_le need x then Ready (count_of (Barrier b) need x) else Unready))
-  look_typed (Flag f) need o = aside o tt (λ x. looked_typed (Flag f) need (if nat_le need x then Ready (count_of (Flag f) need x) else Unready))
-  look_typed Close need o = aside o tt (λ x. looked_typed Close need (if nat_le need x then Ready (count_of Close need x) else Unready))
+  look_typed : (of : Counter) (need : ℕ) → From (Looks of need) (look_job u of need)
+  look_typed (Barrier b) need o = aside o tt tt (λ x. looked_typed (Barrier b) need (if nat_le need x then Ready (count_of (Barrier b) need x) else Unready))
+  look_typed (Flag f) need o = aside o tt tt (λ x. looked_typed (Flag f) need (if nat_le need x then Ready (count_of (Flag f) need x) else Unready))
+  look_typed Close need o = aside o tt tt (λ x. looked_typed Close need (if nat_le need x then Ready (count_of Close need x) else Unready))
 
-  meet_typed : (of : Counter) → From (Off Waiting) (meet_job u of)
-  meet_typed (Barrier b) o = aside o tt (λ x p. Marks (counts refl) (Begins refl))
-  meet_typed (Flag f) o = aside o tt (λ x p. Marks (counts refl) (Begins refl))
-  meet_typed Close o = aside o tt (λ x p. Marks (counts refl) (Begins refl))
+  -- behind a release, which began at time t0, it signals
+  meet_typed : (t0 : ℕ) (of : Counter) → From (Off (Signalling t0)) (meet_job u of)
+  meet_typed t0 (Barrier b) o = aside o tt tt (λ x p. Marks (signals refl refl) (Begins refl))
+  meet_typed t0 (Flag f) o = aside o tt tt (λ x p. Marks (signals refl refl) (Begins refl))
+  meet_typed t0 Close o = aside o tt tt (λ x p. Marks (arrives refl) (Begins refl))
 
   -- a load or a store, with the fault before it
   access_typed : (o : Own) (write : Bool) (w : ℕ) (j : Job) → page_of u w < u.lay.pages
@@ -127,21 +149,21 @@ module _ (u : Who) (at : IsPlaced u) where
   address_in w inside = (at.node_in, page_in u.lay.pages u.lay.words w inside, word_in u.lay.pages u.lay.words w inside)
 
   action_typed : (o : Own) (a : Action) → IsInside (u.lay.pages * u.lay.words) a → Works u None (Off Idle) o (action_job u o a)
-  action_typed o (Set d v) inside = Slips waits (aside o tt (λ x p. Slips finished (Marks (gives refl) (Begins refl))))
-  action_typed o (Jump to) inside = Slips waits (aside o tt (λ x p. Slips finished (Marks (goes refl) (Begins refl))))
+  action_typed o (Set d v) inside = Slips waits (aside o tt tt (λ x p. Slips finished (Marks (gives refl) (Begins refl))))
+  action_typed o (Jump to) inside = Slips waits (aside o tt tt (λ x p. Slips finished (Marks (goes refl) (Begins refl))))
   action_typed o (LoadWord d w) inside =
       access_typed o false w (load_job u d w) (page_in u.lay.pages u.lay.words w inside) (λ faulted p met. Makes (address_in w inside) (λ x. loads met) (λ x. Marks (appends_load refl) (Marks (gives refl) (Begins refl))))
   action_typed o (StoreWord w v) inside =
       access_typed o true w (store_job u w v) (page_in u.lay.pages u.lay.words w inside) (λ faulted p met. Makes (address_in w inside) (λ x. stores met) (λ x. Marks (appends_store refl) (next_typed _)))
-  action_typed o (Print v) inside = Slips waits (aside o tt (λ x p. Marks (counts refl) (passed_by _)))
+  action_typed o (Print v) inside = Slips waits (aside o tt tt (λ x p. Marks (counts refl) (passed_by _)))
   action_typed o (TakeLock l) inside = Slips waits (lock_typed l o)
-  action_typed o (GiveLock l k) inside = release_typed u at o (λ p. aside p tt (λ x q. Marks (counts refl) (passed_by _)))
-  action_typed o (Meet b) inside = release_typed u at o (meet_typed (Barrier b))
-  action_typed o (RaiseFlag f) inside = release_typed u at o (λ p. aside p tt (λ x q. Marks (counts refl) (passed_by _)))
+  action_typed o (GiveLock l k) inside = release_typed u at o (λ t0 p. aside p tt tt (λ x q. Marks (signals refl refl) (passed_by _)))
+  action_typed o (Meet b) inside = release_typed u at o (λ t0. meet_typed t0 (Barrier b))
+  action_typed o (RaiseFlag f) inside = release_typed u at o (λ t0 p. aside p tt tt (λ x q. Marks (signals refl refl) (passed_by _)))
   action_typed o (WaitFlag f need) inside = Slips waits (look_typed (Flag f) need o)
-  action_typed o (Trap kind) inside = Slips waits (stop_typed (Trapped o.reader.place kind) o)
-  action_typed o Spend inside = Slips waits (stop_typed Spent o)
-  action_typed o Arrive inside = release_typed u at o (meet_typed Close)
+  action_typed o (Trap kind) inside = Slips waits (stop_typed (Trapped o.reader.place kind) refl o)
+  action_typed o Spend inside = Slips waits (stop_typed Spent refl o)
+  action_typed o Arrive inside = release_typed u at o (λ t0. meet_typed t0 Close)
 
   pub head_typed : (code : List Instr) (h : Head) → From (Off (at_head h)) (head_job u code h)
   head_typed code Instruction o = Asks (λ p. action_typed p (next_action code (setting_of u) p.reader) (IsInside-next_action code (setting_of u) p.reader))
@@ -150,4 +172,4 @@ module _ (u : Who) (at : IsPlaced u) where
 
   -- where memory is wanting
   pub starved_typed : From (Off Stopping) (starved_job u)
-  starved_typed o = stopping NoMemory o
+  starved_typed o = stopping NoMemory refl o

@@ -5,6 +5,8 @@ use Rattle.dsm_isa.specs.declared.instr.Instr.{Instr}
 use Rattle.dsm_local.specs.declared.action.Action.{Action}
 use Rattle.dsm_local.specs.declared.action.Action.TheVariants.{Set, Jump, LoadWord, StoreWord, Print, TakeLock, GiveLock, Meet, RaiseFlag, WaitFlag, Trap, Spend, Arrive}
 use Rattle.dsm_local.specs.Readers.{next_action}
+use Rattle.dsm_local.specs.declared.end.End.{End as Ending}
+use Rattle.dsm_local.specs.declared.end.End.TheVariants.{Halted}
 use Rattle.dsm_words.specs.Script.{Act, Change}
 use Rattle.dsm_clock.specs.Turns.{turn_item}
 use Rattle.dsm_protocol.specs.declared.head.Head.TheVariants.{Instruction, Locking, Looking}
@@ -12,8 +14,8 @@ use Rattle.dsm_protocol.specs.Own.{Own, Who, setting_of, mapping, new_own}
 use Rattle.dsm_protocol.specs.Jobs.{Job, Make, Again, Mark, Ask, Begin, Ended, first_act, job_after, has_ended, is_ready, held_turn, own_after}
 use Rattle.dsm_protocol.specs.Steps.{fault_job, allows, page_of, load_job, store_job, action_job}
 use Rattle.dsm_protocol.specs.Processors.{Processor, Given, IsMade, settled, run_on, wanting, after_answer, after_given, processor_of}
-use Rattle.dsm_protocol.specs.Stages.{Idle, Stopping, Work, Off, turn_at}
-use Rattle.dsm_protocol.specs.Standing.{Works, Makes, Takes, Marks, Asks, Slips, Rests, Asides, Begins, Ends, Stands, Path, Stay, Decides, Notes, Does, Row, Won, Lost, Aside, Moves, starts_from, EveryProcessorStands, EveryEventIsARow}
+use Rattle.dsm_protocol.specs.Stages.{Idle, Stopping, Work, Off, Gone, turn_at}
+use Rattle.dsm_protocol.specs.Standing.{is_halt, EndsAt, Works, Makes, Takes, Marks, Asks, Slips, Rests, Asides, Begins, Ends, Halts, Stands, Path, Stay, Decides, Notes, Does, Row, Won, Lost, Aside, Moves, starts_from, EveryProcessorStands, EveryEventIsARow}
 use Rattle.dsm_protocol.proofs.Placed.{IsPlaced, placed}
 use Rattle.dsm_protocol.proofs.Heading.{head_typed, starved_typed}
 use Rattle.dsm_protocol.proofs.Turning.{IsSettled, step_settled, wins_settled, slip_settled, note_settled, works_held}
@@ -23,13 +25,20 @@ pub record Rested (u : Who) (w : Work) (o : Own) (m : Processor) : Type 0 where
   pub next : Work
   pub path : Path u w o next m.own
   pub works : Works u None next m.own m.todo
+  pub over : EndsAt m.todo next
 
 -- An event leads from w to where the processor does its job by the table, and gives back the turn of that place.
 pub record Moved (u : Who) (w : Work) (o : Own) (a : Act) (x : ℕ) (m : Processor) : Type 0 where
   pub next : Work
   pub works : Works u None next m.own m.todo
   pub holds : held_turn m.todo ≡ turn_at u next
+  pub over : EndsAt m.todo next
   pub moves : Moves u w o a x next m
+
+-- the end of one that has not halted
+pub ends_gone : (e : Ending) → is_halt e ≡ false → EndsAt (Ended e) Gone
+ends_gone Halted other = absurd (cc other)
+ends_gone e other = refl
 
 module _ (u : Who) where
   pub path_settled : {w v : Work} {o p : Own} → Path u w o v p → IsSettled u w → IsSettled u v
@@ -39,7 +48,7 @@ module _ (u : Who) where
 
   -- the processor behind a path
   arrived : {w to : Work} {o : Own} {a : Act} {x : ℕ} {m : Processor} → Does u o w a x to → IsSettled u to → Rested u to o m → Moved u w o a x m
-  arrived row owed r = record { next = r.next; works = r.works; holds = works_held u r.works (path_settled r.path owed); moves = record { from = _; to = _; before = Stay; row = row; behind = r.path } }
+  arrived row owed r = record { next = r.next; works = r.works; holds = works_held u r.works (path_settled r.path owed); over = r.over; moves = record { from = _; to = _; before = Stay; row = row; behind = r.path } }
 
   -- a job that begins with an operation or is at its end
   module _ (o : Own) where
@@ -74,26 +83,28 @@ module _ (u : Who) where
 
 module _ (u : Who) (at : IsPlaced u) (code : List Instr) where
   pub settle : {w : Work} {o : Own} {j : Job} → Works u None w o j → Rested u w o (settled o j)
-  settle (Makes within row k) = record { next = _; path = Stay; works = Makes within row k }
-  settle (Takes turn within row k) = record { next = _; path = Stay; works = Takes turn within row k }
-  settle (Asides none is k) = record { next = _; path = Stay; works = Asides none is k }
-  settle (Begins none) = record { next = _; path = Stay; works = Begins none }
-  settle (Ends none) = record { next = _; path = Stay; works = Ends none }
+  settle (Makes within row k) = record { next = _; path = Stay; works = Makes within row k; over = tt }
+  settle (Takes turn within row k) = record { next = _; path = Stay; works = Takes turn within row k; over = tt }
+  settle (Asides none may is k) = record { next = _; path = Stay; works = Asides none may is k; over = tt }
+  settle (Begins none) = record { next = _; path = Stay; works = Begins none; over = tt }
+  settle (Ends none other) = record { next = _; path = Stay; works = Ends none other; over = ends_gone _ other }
+  settle (Halts none) = record { next = _; path = Stay; works = Halts none; over = refl }
   settle (Rests is resting) = absurd (cc is)
-  settle (Marks row k) = let r = settle k in record { next = r.next; path = Notes _ row r.path; works = r.works }
+  settle (Marks row k) = let r = settle k in record { next = r.next; path = Notes _ row r.path; works = r.works; over = r.over }
   settle {o = o} (Asks k) = settle (k o)
-  settle (Slips row k) = let r = settle k in record { next = r.next; path = Decides row r.path; works = r.works }
+  settle (Slips row k) = let r = settle k in record { next = r.next; path = Decides row r.path; works = r.works; over = r.over }
 
   run : {w : Work} {o : Own} {j : Job} → Works u None w o j → Rested u w o (run_on u code o j)
-  run (Makes within row k) = record { next = _; path = Stay; works = Makes within row k }
-  run (Takes turn within row k) = record { next = _; path = Stay; works = Takes turn within row k }
-  run (Asides none is k) = record { next = _; path = Stay; works = Asides none is k }
+  run (Makes within row k) = record { next = _; path = Stay; works = Makes within row k; over = tt }
+  run (Takes turn within row k) = record { next = _; path = Stay; works = Takes turn within row k; over = tt }
+  run (Asides none may is k) = record { next = _; path = Stay; works = Asides none may is k; over = tt }
   run {o = o} (Begins {h = h} none) = settle (head_typed u at code h o)
-  run (Ends none) = record { next = _; path = Stay; works = Ends none }
+  run (Ends none other) = record { next = _; path = Stay; works = Ends none other; over = ends_gone _ other }
+  run (Halts none) = record { next = _; path = Stay; works = Halts none; over = refl }
   run (Rests is resting) = absurd (cc is)
-  run (Marks row k) = let r = run k in record { next = r.next; path = Notes _ row r.path; works = r.works }
+  run (Marks row k) = let r = run k in record { next = r.next; path = Notes _ row r.path; works = r.works; over = r.over }
   run {o = o} (Asks k) = run (k o)
-  run (Slips row k) = let r = run k in record { next = r.next; path = Decides row r.path; works = r.works }
+  run (Slips row k) = let r = run k in record { next = r.next; path = Decides row r.path; works = r.works; over = r.over }
 
   -- an operation of a job that goes by the table, and its answer
   moved : {w : Work} {o : Own} {j : Job} (x : ℕ) → Works u None w o j → has_ended j ≡ false → is_ready j ≡ true → Moved u w o (first_act j) x (run_on u code o (job_after j x))
@@ -102,14 +113,15 @@ module _ (u : Who) (at : IsPlaced u) (code : List Instr) where
     where
       go : (b : Bool) → (x == 0) ≡ b → Moved u w o (Change (turn_item turn) 0 (u.p + 1)) x (run_on u code o (if b then j else Again (Change (turn_item turn) 0 (u.p + 1)) 0 j))
       go true won = arrived u (Won turn within row (eqb-true x 0 won)) (wins_settled u row).1 (run k)
-      go false lost = arrived u (Lost turn within row (eqb-false x 0 lost)) (wins_settled u row).0 (record { next = w; path = Stay; works = Takes turn within row k })
-  moved x (Asides none is k) runs ready = arrived u (Aside is) tt (run (k x))
+      go false lost = arrived u (Lost turn within row (eqb-false x 0 lost)) (wins_settled u row).0 (record { next = w; path = Stay; works = Takes turn within row k; over = tt })
+  moved x (Asides none may is k) runs ready = arrived u (Aside may is) tt (run (k x))
   moved x (Slips row k) runs ready =
       let r = moved x k runs ready in
-      record { next = r.next; works = r.works; holds = r.holds; moves = record { from = r.moves.from; to = r.moves.to; before = Decides row r.moves.before; row = r.moves.row; behind = r.moves.behind } }
+      record { next = r.next; works = r.works; holds = r.holds; over = r.over; moves = record { from = r.moves.from; to = r.moves.to; before = Decides row r.moves.before; row = r.moves.row; behind = r.moves.behind } }
   moved x (Rests is resting) runs ready = absurd (cc is)
   moved x (Begins none) runs ready = absurd (cc ready)
-  moved x (Ends none) runs ready = absurd (cc runs)
+  moved x (Ends none other) runs ready = absurd (cc runs)
+  moved x (Halts none) runs ready = absurd (cc runs)
   moved x (Marks row k) runs ready = absurd (cc ready)
   moved x (Asks k) runs ready = absurd (cc ready)
 
@@ -132,17 +144,17 @@ module _ (u : Who) (at : IsPlaced u) (code : List Instr) where
   module _ (w : Work) (o : Own) where
     wanting_stands : (starved : Bool) (j : Job) → Stands u w (record { own = o; todo = j }) → (v : Work) × Stands u v (wanting u starved (record { own = o; todo = j }))
     wanting_stands false j stands = (w, stands)
-    wanting_stands true (Make a k) stands = (Off Stopping, record { works = starved_typed u at o; holds = refl; ready = refl })
-    wanting_stands true (Again a wanted j) stands = (Off Stopping, record { works = starved_typed u at o; holds = refl; ready = refl })
-    wanting_stands true (Ended e) stands = (w, record { works = stands.works; holds = stands.holds; ready = refl })
+    wanting_stands true (Make a k) stands = (Off Stopping, record { works = starved_typed u at o; holds = refl; ready = refl; over = tt })
+    wanting_stands true (Again a wanted j) stands = (Off Stopping, record { works = starved_typed u at o; holds = refl; ready = refl; over = tt })
+    wanting_stands true (Ended e) stands = (w, record { works = stands.works; holds = stands.holds; ready = refl; over = stands.over })
     wanting_stands true (Mark n j) stands = absurd (cc stands.ready)
     wanting_stands true (Ask f) stands = absurd (cc stands.ready)
     wanting_stands true (Begin h) stands = absurd (cc stands.ready)
 
     answered_stands : (got : ℕ) (j : Job) → Stands u w (record { own = o; todo = j }) → (v : Work) × Stands u v (after_answer u code (record { own = o; todo = j }) got)
-    answered_stands got (Make a k) stands = let r = moved got stands.works refl refl in (r.next, record { works = r.works; holds = r.holds; ready = ready_run u code o (k got) })
-    answered_stands got (Again a wanted j) stands = let r = moved got stands.works refl refl in (r.next, record { works = r.works; holds = r.holds; ready = ready_run u code o (if got == wanted then j else Again a wanted j) })
-    answered_stands got (Ended e) stands = (w, record { works = stands.works; holds = stands.holds; ready = refl })
+    answered_stands got (Make a k) stands = let r = moved got stands.works refl refl in (r.next, record { works = r.works; holds = r.holds; ready = ready_run u code o (k got); over = r.over })
+    answered_stands got (Again a wanted j) stands = let r = moved got stands.works refl refl in (r.next, record { works = r.works; holds = r.holds; ready = ready_run u code o (if got == wanted then j else Again a wanted j); over = r.over })
+    answered_stands got (Ended e) stands = (w, record { works = stands.works; holds = stands.holds; ready = refl; over = stands.over })
     answered_stands got (Mark n j) stands = absurd (cc stands.ready)
     answered_stands got (Ask f) stands = absurd (cc stands.ready)
     answered_stands got (Begin h) stands = absurd (cc stands.ready)
@@ -151,7 +163,7 @@ module _ (u : Who) (at : IsPlaced u) (code : List Instr) where
   unfolding processor_of
   stands_of [] =
       let r = run {w = Off Idle} {o = new_own} {j = Begin Instruction} (Begins refl) in
-      (r.next, record { works = r.works; holds = works_held u r.works (path_settled u r.path tt); ready = ready_run u code new_own (Begin Instruction) })
+      (r.next, record { works = r.works; holds = works_held u r.works (path_settled u r.path tt); ready = ready_run u code new_own (Begin Instruction); over = r.over })
   stands_of (g ∷ gs) =
       let s = stands_of gs in
       let m = processor_of u code gs in
@@ -172,4 +184,4 @@ pub every_event_is_a_row : EveryEventIsARow
 every_event_is_a_row u code w m given here stands runs =
     let r = event u (placed u here) code w m given stands.works runs stands.ready in
     let n = wanting u given.starved m in
-    (r.next, record { works = r.works; holds = r.holds; ready = ready_run u code n.own (job_after n.todo given.got) }, r.moves)
+    (r.next, record { works = r.works; holds = r.holds; ready = ready_run u code n.own (job_after n.todo given.got); over = r.over }, r.moves)

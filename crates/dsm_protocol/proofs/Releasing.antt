@@ -12,7 +12,7 @@ use Rattle.dsm_notice.specs.Notices.{post_from}
 use Rattle.dsm_protocol.specs.Own.{Own, Who, node_of, mapping, is_dirty}
 use Rattle.dsm_protocol.specs.Jobs.{Job, Mark, Happen, Sent, Told, call, call_counting}
 use Rattle.dsm_protocol.specs.Steps.{map_job, done_job, lower_job, drop_job, told_job, post_job, sent_job, flush_job, send_job, tell_job, release_page, release_from, release_job}
-use Rattle.dsm_protocol.specs.Stages.{For_release, Whole, Differs, Stage, Checking, Drawing, Timed, Flushing, Stamping, Stamped, Posting, Posted, Telling, Lowering, Dropping, Untwining, Unlisting, Done, Idle, Waiting, Collecting, Releasing, Off, On, lowered}
+use Rattle.dsm_protocol.specs.Stages.{For_release, Whole, Differs, Stage, Checking, Drawing, Timed, Flushing, Stamping, Stamped, Posting, Posted, Telling, Lowering, Dropping, Untwining, Unlisting, Done, Idle, Signalling, Collecting, Releasing, Off, On, lowered}
 use Rattle.dsm_protocol.specs.Rows.{sees_release, lasts, draws_send, tests_flush, flushes, flushes_same, flushes_twin, flushes_home, stamps_flush, reads_dir, posts, lowers, drops, untwins, unlists, finishes, draws_release, collects, releases, flushed_all, unsent, posted, untold, unlowered, dropped, clean, released, maps, cleans, joins, sent, told, counts}
 use Rattle.dsm_protocol.specs.Standing.{Works, Makes, Takes, Marks, Asks, Slips}
 use Rattle.dsm_protocol.proofs.Placed.{IsPlaced, group_in, rows}
@@ -114,7 +114,7 @@ module _ (u : Who) (at : IsPlaced u) (rest : Option Job) where
     release_on o e k =
         Takes (Page (node_of u) g) (at.node_in, g_in) (releases e) (Makes (at.node_in, g_in) (λ x. sees_release) (λ d. pick u rest (Releasing t0 g) (d == 2) (done_at o k) (seeking u rest (Releasing t0 g) at g g_in For_release o _ (λ h h_in. checking h h_in o (λ p. done_at p k)))))
 
-  releases_on : {j : Job} (t0 g k : ℕ) (o : Own) → g + k ≡ u.lay.pages → ((p : Own) → Works u rest (Off Waiting) p j) → Works u rest (Off (Releasing t0 g)) o (release_from u t0 g k j)
+  releases_on : {j : Job} (t0 g k : ℕ) (o : Own) → g + k ≡ u.lay.pages → ((p : Own) → Works u rest (Off (Signalling t0)) p j) → Works u rest (Off (Releasing t0 g)) o (release_from u t0 g k j)
   releases_on {j} t0 g zero o w r = subst (λ z. Works u rest (Off (Releasing t0 z)) o j) (omega (arith, w)) (Slips released (r o))
   releases_on {j} t0 g (suc k) o w r = Asks (λ p. go p (is_dirty p g) refl (λ q. releases_on t0 (g + 1) k q (omega (arith, w)) r))
     where
@@ -127,9 +127,9 @@ module _ (u : Who) (at : IsPlaced u) (rest : Option Job) where
   collecting t0 k zero set o f e p = subst (λ z. Works u rest (Off (Collecting t0 z set)) o (f set)) (omega (arith, e)) (p set)
   collecting t0 k (suc c) set o f e p = Makes (at.p_in, omega (arith, e)) (λ x. collects) (λ x. collecting t0 (k + 1) c _ o f (omega (arith, e)) p)
 
-  typed : {j : Job} (o : Own) → ((p : Own) → Works u rest (Off Waiting) p j) → Works u rest (Off Idle) o (release_job u j)
-  typed o r = Makes at.node_in (λ t0. draws_release) (λ t0. collecting t0 0 (groups u.lay) _ o _ (omega arith) (λ set. Marks joins (releases_on t0 0 u.lay.pages _ (omega arith) r)))
+  typed : {j : Job} (o : Own) → ((t0 : ℕ) (p : Own) → Works u rest (Off (Signalling t0)) p j) → Works u rest (Off Idle) o (release_job u j)
+  typed o r = Makes at.node_in (λ t0. draws_release) (λ t0. collecting t0 0 (groups u.lay) _ o _ (omega arith) (λ set. Marks joins (releases_on t0 0 u.lay.pages _ (omega arith) (r t0))))
 
 -- a release
-pub release_typed : (u : Who) (at : IsPlaced u) {rest : Option Job} {j : Job} (o : Own) → ((p : Own) → Works u rest (Off Waiting) p j) → Works u rest (Off Idle) o (release_job u j)
+pub release_typed : (u : Who) (at : IsPlaced u) {rest : Option Job} {j : Job} (o : Own) → ((t0 : ℕ) (p : Own) → Works u rest (Off (Signalling t0)) p j) → Works u rest (Off Idle) o (release_job u j)
 release_typed u at o r = typed u at _ o r

@@ -2,7 +2,7 @@
 use Rattle.std.proofs.Common.{◌≡◌, ℕ, ◌+◌, ◌-◌, ◌%◌, ◌==◌, Bool, true, false, Option, None, Some, refl, sym, subst, ap, if◌then◌else◌}
 use Rattle.std.specs.Prelude.{◌<◌, [], ◌&&◌, ◌||◌, not, nat_lt, List}
 use Rattle.std.proofs.lemmas.Option.{none-some}
-use Rattle.dsm_entry.specs.declared.entry.Entry.TheVariants.{Load, Store}
+use Rattle.dsm_entry.specs.declared.entry.Entry.TheVariants.{Load, Store, Signal, Pass}
 use Rattle.dsm_words.specs.declared.item.Item.TheVariants.{Map, Turn, NoticeTurn}
 use Rattle.dsm_words.specs.Place.{IsWithin}
 use Rattle.dsm_words.specs.Script.{Act, Put, Change, item_of}
@@ -13,9 +13,9 @@ use Rattle.dsm_protocol.specs.Own.{new_own, Own, Who, Unready, node_of}
 use Rattle.dsm_protocol.specs.Jobs.{Job, Make, Again, Mark, Note, Give, Go, Move, Append, Map_own, Soil, Clean, Join, Count, Happen}
 use Rattle.dsm_protocol.specs.Steps.{allows, page_of, fault_job, release_job, acquire_job, closing_job}
 use Rattle.dsm_protocol.specs.Rights.{IsInner, May, Plain, Maps, Gives, Works as Working, Over as Rested, Makes as Made, Takes as Taken, Marks_map, Marks as Marked, Asks as Asked_of}
-use Rattle.dsm_protocol.specs.Stages.{Cause, Fault, Closing, Seeker, For_fault, For_release, For_closing, Stage, Mapped, Soiling, Giving, Round, Idle, Waiting, Passing, Finished, Closed, Access, Loaded, Stored, Work, Off, On, Gone, registered, found, held_alone, departed, lowered, stage_turn, seeker_node, turn_at}
-use Rattle.dsm_protocol.specs.Rows.{IsPlain, Step, Wins, Slip, Noted, loads, stores, sees_dir, seeks, settles, clears, registers, shares, wants, parts, looks, reads_map, marks, saves, saves_twin, saves_home, twins_broken, breaks, departs, sees_again, tests, claims, looks_again, withdraws, draws_enter, fills, fills_own, stamps_enter, enters, compares, judges, draws, sees_twin, copies, copies_over, merges, merges_own, merges_twin, stamps, has_twin, makes, makes_twin, made, sets, gives, sees_release, lasts, draws_send, tests_flush, flushes, flushes_same, flushes_twin, flushes_home, stamps_flush, reads_dir, posts, lowers, drops, untwins, unlists, finishes, sees_acquire, compares_own, judges_own, unmaps, empties, sees_bare, leaves, gives_over, draws_release, collects, drains, draws_notice, notices, flags, gives_notices, takes, seeks_holder, stops, faults, visits, returns, releases, hears, acquires, closes, accesses, waits, tells, finished, ends, halts, shared, unwanted, marked, claimed, at_home, read_only, flushed_all, unsent, posted, untold, unlowered, dropped, emptied, clean, released, unheard, heard, flagged, next_node, drained, taken, passed_over, closing, unclosing, unheld, closed, maps, soils, cleans, joins, appends_load, appends_store, goes, moves, passes, acquired, begins_copy, begins_fill, fetched, filled, broken, broadcast, sent, told, counts}
-use Rattle.dsm_protocol.specs.Standing.{IsResting, Works, Makes, Takes, Marks, Asks, Slips, Rests, Asides, Begins, Ends}
+use Rattle.dsm_protocol.specs.Stages.{Cause, Fault, Closing, Seeker, For_fault, For_release, For_closing, Stage, Mapped, Soiling, Giving, Round, Idle, Waiting, Signalling, Quitting, Passing, Finished, Closed, Access, Loaded, Stored, Work, Off, On, Gone, registered, found, held_alone, departed, lowered, stage_turn, seeker_node, turn_at}
+use Rattle.dsm_protocol.specs.Rows.{IsPlain, Step, Wins, Slip, Noted, loads, stores, sees_dir, seeks, settles, clears, registers, shares, wants, parts, looks, reads_map, marks, saves, saves_twin, saves_home, twins_broken, breaks, departs, sees_again, tests, claims, looks_again, withdraws, draws_enter, fills, fills_own, stamps_enter, enters, compares, judges, draws, sees_twin, copies, copies_over, merges, merges_own, merges_twin, stamps, has_twin, makes, makes_twin, made, sets, gives, sees_release, lasts, draws_send, tests_flush, flushes, flushes_same, flushes_twin, flushes_home, stamps_flush, reads_dir, posts, lowers, drops, untwins, unlists, finishes, sees_acquire, compares_own, judges_own, unmaps, empties, sees_bare, leaves, gives_over, draws_release, collects, drains, draws_notice, notices, flags, gives_notices, takes, seeks_holder, stops, faults, visits, returns, releases, hears, acquires, closes, accesses, waits, tells, finished, ends, forsaken, despairs, shared, unwanted, marked, claimed, at_home, read_only, flushed_all, unsent, posted, untold, unlowered, dropped, emptied, clean, released, unheard, heard, flagged, next_node, drained, taken, passed_over, closing, unclosing, unheld, closed, maps, soils, cleans, joins, appends_load, appends_store, signals, admits, arrives, dismisses, quits, goes, moves, passes, acquired, begins_copy, begins_fill, fetched, filled, broken, broadcast, sent, told, counts}
+use Rattle.dsm_protocol.specs.Standing.{IsResting, Works, Makes, Takes, Marks, Asks, Slips, Rests, Asides, Begins, Ends, Halts}
 use Rattle.dsm_protocol.proofs.Placed.{IsPlaced}
 use Rattle.dsm_protocol.proofs.Faulting.{fault_typed}
 use Rattle.dsm_protocol.proofs.Releasing.{release_typed}
@@ -245,7 +245,8 @@ module _ (u : Who) where
   slip tells = (tt, here refl refl tt)
   slip finished = (tt, here refl refl tt)
   slip ends = (tt, here refl refl tt)
-  slip halts = (tt, here refl refl tt)
+  slip forsaken = (tt, here refl refl tt)
+  slip despairs = (tt, here refl refl tt)
   slip (shared {write = write} {row = row}) = (tt, pick (row.busy == 0) (pick (write && not row.others) (here refl refl tt) (here refl refl tt)) (here refl refl tt))
   slip (unwanted e) = (tt, here refl refl tt)
   slip (marked {h = h} {j = j}) = (tt, pick (j == h) (here refl refl tt) (here refl refl tt))
@@ -268,8 +269,8 @@ module _ (u : Who) where
   slip drained = (tt, here refl refl tt)
   slip taken = (tt, here refl refl tt)
   slip (passed_over e) = (tt, here refl refl tt)
-  slip closing = (tt, here refl refl tt)
-  slip unclosing = (tt, here refl refl tt)
+  slip (closing e) = (tt, here refl refl tt)
+  slip (unclosing e) = (tt, here refl refl tt)
   slip unheld = (tt, here refl refl tt)
   slip closed = (tt, here refl refl tt)
 
@@ -280,6 +281,8 @@ module _ (u : Who) where
     plain Move h = h
     plain (Append (Load w v)) h = h
     plain (Append (Store w v)) h = h
+    plain (Append (Signal of j)) h = h
+    plain (Append (Pass of c)) h = h
     plain (Append e) h = absurd (some_rest last h)
     plain (Map_own g k) h = h
     plain (Soil g) h = absurd h
@@ -305,10 +308,15 @@ module _ (u : Who) where
     noted (told e) = Inner tt refl refl (λ h. tt) (λ h. h)
     noted (appends_load e) = absurd (some_rest last e)
     noted (appends_store e) = absurd (some_rest last e)
+    noted (signals e other) = absurd (some_rest last e)
+    noted (admits e other) = absurd (some_rest last e)
+    noted (arrives e) = absurd (some_rest last e)
+    noted (dismisses e) = absurd (some_rest last e)
     noted (gives e) = absurd (some_rest last e)
     noted (goes e) = absurd (some_rest last e)
     noted (moves e) = absurd (some_rest last e)
     noted (passes e) = absurd (some_rest last e)
+    noted (quits e) = absurd (some_rest last e)
     noted (counts {n = n} h) = Inner (plain n h) refl refl (λ s. s) (λ e. e)
 
     -- nobody goes on from there
@@ -323,9 +331,10 @@ module _ (u : Who) where
     stuck (Asks {o = o} f) e = stuck (f o) e
     stuck (Slips s k) e = not_stuck _ (slip s).0 e
     stuck (Rests last_is resting) e = resting_goes_on _ resting e
-    stuck (Asides none is f) e = e
+    stuck (Asides none may is f) e = some_rest last none
     stuck (Begins none) e = some_rest last none
-    stuck (Ends none) e = some_rest last none
+    stuck (Ends none other) e = some_rest last none
+    stuck (Halts none) e = some_rest last none
 
     -- it does protocol work with this turn held, and this mapping owed
     abbrev Under : Option TurnId → Option (ℕ × ℕ) → Job → Type 0
@@ -340,7 +349,9 @@ module _ (u : Who) where
     rested : (r : Round) → IsResting r → Under (turn_at u (Off r)) None last
     rested Idle h = Rested
     rested Waiting h = Rested
+    rested (Signalling t0) h = Rested
     rested Passing h = Rested
+    rested Quitting h = Rested
     rested Finished h = Rested
     rested Closed h = Rested
     rested (Access faulted write a) h = Rested
@@ -365,9 +376,10 @@ module _ (u : Who) where
     works_of (Asks {o = o} f) s = Asked_of (λ p. works_of (f p) s)
     works_of (Slips {w = w} {w' = w'} x k) s = let g = slip x in back w refl (nothing_owed w g.0) (held_at w' g.1.turn g.1.owes (works_of k g.1.settled))
     works_of (Rests {r = r} is resting) s = subst (λ j. Under (turn_at u (Off r)) None j) (same_rest _ _ is) (rested r resting)
-    works_of (Asides none is f) s = absurd (some_rest last none)
+    works_of (Asides none may is f) s = absurd (some_rest last none)
     works_of (Begins none) s = absurd (some_rest last none)
-    works_of (Ends none) s = absurd (some_rest last none)
+    works_of (Ends none other) s = absurd (some_rest last none)
+    works_of (Halts none) s = absurd (some_rest last none)
 
 -- a processor that has no mapping
 abbrev pub bare : Own
@@ -383,7 +395,7 @@ fault_works u j at write w inside = works_of u j (fault_typed u at write w insid
 
 -- a release
 pub release_works : (u : Who) (j : Job) → IsPlaced u → Working u j None None (release_job u j)
-release_works u j at = works_of u j (release_typed u at bare (λ p. Rests refl tt)) tt
+release_works u j at = works_of u j (release_typed u at bare (λ t0 p. Rests refl tt)) tt
 
 -- an acquire
 pub acquire_works : (u : Who) (j : Job) → IsPlaced u → Working u j None None (acquire_job u j)

@@ -5,13 +5,14 @@ use Rattle.dsm_words.specs.declared.item.Item.TheVariants.{Turn, NoticeTurn}
 use Rattle.dsm_words.specs.Script.{Act, Put}
 use Rattle.dsm_clock.specs.declared.turns.TurnId.{TurnId}
 use Rattle.dsm_clock.specs.declared.turns.TurnId.TheVariants.{Page}
+use Rattle.dsm_sync.specs.declared.counter.Counter.TheVariants.{Barrier, Flag, Close}
 use Rattle.dsm_protocol.specs.declared.head.Head.{Head}
 use Rattle.dsm_protocol.specs.declared.head.Head.TheVariants.{Instruction, Locking, Looking}
 use Rattle.dsm_protocol.specs.Own.{Own, Who, node_of, new_own}
 use Rattle.dsm_protocol.specs.Jobs.{Job, Note, turn_back, held_turn}
-use Rattle.dsm_protocol.specs.Stages.{Cause, Fault, Closing, Seeker, For_fault, For_release, For_closing, Stage, Mapped, Round, Work, Off, On, Gone, registered, found, held_alone, departed, lowered, seeker_node, stage_turn, round_turn, turn_at}
+use Rattle.dsm_protocol.specs.Stages.{Cause, Fault, Closing, Seeker, For_fault, For_release, For_closing, Stage, Mapped, Round, Waiting, Signalling, Arrived, Work, Off, On, Gone, registered, found, held_alone, departed, lowered, seeker_node, stage_turn, round_turn, turn_at}
 use Rattle.dsm_protocol.specs.Rows.{Step, sees_dir, seeks, settles, wants, looks, reads_map, departs, sees_again, tests, judges, merges, has_twin, sets, sees_release, lasts, draws_send, tests_flush, flushes_same, reads_dir, lowers, untwins, sees_acquire, judges_own, unmaps, sees_bare, Wins, faults, Slip, shared, marked, claimed, unlowered, dropped, emptied, Noted, maps, counts}
-use Rattle.dsm_protocol.specs.Standing.{IsAside, at_head, Works, Makes, Takes, Marks, Asks, Slips, Rests, Asides, Begins, Ends}
+use Rattle.dsm_protocol.specs.Standing.{IsAside, IsOpen, at_head, Works, Makes, Takes, Marks, Asks, Slips, Rests, Asides, Begins, Ends, Halts}
 
 module _ (u : Who) where
   -- what comes behind a mapping that was stored holds the turn of its own node's copy
@@ -152,10 +153,19 @@ module _ (u : Who) where
   aside_turn (Put (NoticeTurn n) v) is = absurd is
   aside_turn a is = refl
 
+  -- no turn is held where one is made
+  open_turn : (r : Round) → IsOpen r → round_turn u r ≡ None
+  open_turn Waiting may = refl
+  open_turn Arrived may = refl
+  open_turn (Signalling t0) may = refl
+  open_turn r may = absurd may
+
   head_turn : (h : Head) → round_turn u (at_head h) ≡ None
   head_turn Instruction = refl
   head_turn (Locking l) = refl
-  head_turn (Looking of need) = refl
+  head_turn (Looking (Barrier b) need) = refl
+  head_turn (Looking (Flag f) need) = refl
+  head_turn (Looking Close need) = refl
 
   -- the job gives back the turn of the place
   pub works_held : {w : Work} {o : Own} {j : Job} → Works u None w o j → IsSettled w → held_turn j ≡ turn_at u w
@@ -165,6 +175,7 @@ module _ (u : Who) where
   works_held (Asks k) owed = works_held (k new_own) owed
   works_held (Slips row k) owed = works_held k (slip_settled row) ∙ slip_turn row
   works_held (Rests is at) owed = absurd (cc is)
-  works_held (Asides {a = a} none is k) owed = ap (turn_back a) (works_held (k 0) tt) ∙ aside_turn a is
+  works_held (Asides {r = r} {a = a} none may is k) owed = ap (turn_back a) (works_held (k 0) tt ∙ open_turn r may) ∙ aside_turn a is ∙ sym (open_turn r may)
   works_held (Begins {h = h} none) owed = sym (head_turn h)
-  works_held (Ends none) owed = refl
+  works_held (Ends none other) owed = refl
+  works_held (Halts none) owed = refl

@@ -12,7 +12,7 @@ use Rattle.dsm_protocol.specs.declared.counts.Counts.{Counts}
 use Rattle.dsm_protocol.specs.Own.{Own, Who, no_counts, new_own}
 use Rattle.dsm_protocol.specs.Jobs.{first_act}
 use Rattle.dsm_protocol.specs.Processors.{Processor, new_processor, after_given}
-use Rattle.dsm_protocol.specs.Stages.{Cause, Fault, For_fault, For_release, Whole, Got, Differs, Half, Stage, Asked, Seeking, Clearing, Registering, Sharing, Wanting, Parting, Visiting, Looking, Breaking, Marking, Saving, Ending, Parted, Back, Ready, Compared, Fetching, Opened, Copying, Copied, Current, Making, Setting, Giving, Released, Checking, Drawing, Timed, Flushing, Stamping, Posting, Telling, Lowering, Dropping, Untwining, Done, Acquiring, Judging, Judged, Unmapping, Emptying, Emptied, Leaving, Over, Round, Idle, Waiting, Passing, Access, Collecting, Releasing, Draining, Hearing, Noticing, Flagging, Drained, Taking, Told, Work, Off, On}
+use Rattle.dsm_protocol.specs.Stages.{Cause, Fault, For_fault, For_release, Whole, Got, Differs, Half, Stage, Asked, Seeking, Clearing, Registering, Sharing, Wanting, Parting, Visiting, Looking, Breaking, Marking, Saving, Ending, Parted, Back, Ready, Compared, Fetching, Opened, Copying, Copied, Current, Making, Setting, Giving, Released, Checking, Drawing, Timed, Flushing, Stamping, Posting, Telling, Lowering, Dropping, Untwining, Done, Acquiring, Judging, Judged, Unmapping, Emptying, Emptied, Leaving, Over, Round, Idle, Waiting, Signalling, Passing, Access, Collecting, Releasing, Draining, Hearing, Noticing, Flagging, Drained, Taking, Told, Work, Off, On}
 use Rattle.dsm_protocol.specs.Standing.{Path, Does}
 
 -- one operation as a reader wants to see it: the place where it is made, the operation, the answer
@@ -233,7 +233,7 @@ unlocking =
           ∷ on sending (Dropping 1 true true) (Get (Map 1 0)) 1
           ∷ on sending (Untwining false) (Put (Twined 1 0) 0) 0
           ∷ on sending Done (Put (Turn 1 0) 0) 0
-          ∷ off Waiting (Put (Lock 0) 2) 0
+          ∷ off (Signalling 2) (Put (Lock 0) 2) 0
           ∷ [];
       last = Off Waiting;
       after = behind_unlock;

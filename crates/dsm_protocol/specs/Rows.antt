@@ -2,7 +2,9 @@
 -- decided with no operation; and what is noted.
 use Rattle.std.specs.Prelude.{◌≡◌, ℕ, ◌+◌, ◌-◌, ◌*◌, ◌%◌, ◌^◌, ◌<◌, ◌≤◌, ◌==◌, ◌&&◌, ◌||◌, not, nat_lt, Bool, true, false, if◌then◌else◌, List, Option, None, length, replicate, slice_set, slice_index, slice_index_or}
 use Rattle.std.specs.Int.{bit_at}
-use Rattle.dsm_entry.specs.declared.entry.Entry.TheVariants.{Load, Store}
+use Rattle.dsm_entry.specs.declared.entry.Entry.TheVariants.{Load, Store, Signal, Pass}
+use Rattle.dsm_entry.specs.declared.entry.Obj.{Obj}
+use Rattle.dsm_entry.specs.declared.entry.Obj.TheVariants.{Close as CloseOf}
 use Rattle.dsm_words.specs.declared.item.Item.TheVariants.{Stop, Frame, Twin, Twined, Map, Dir, Update, Flush, Notice, Clock, Turn, NoticeTurn, Global, Own as OwnWord, Nle, Home}
 use Rattle.dsm_words.specs.Place.{groups}
 use Rattle.dsm_words.specs.Pages.{group_of, bit_of, pages_in, has_page}
@@ -14,19 +16,21 @@ use Rattle.dsm_directory.specs.Directory.{no_row, row_with, is_busy}
 use Rattle.dsm_protocol.specs.Own.{Who, Unready, node_of}
 use Rattle.dsm_protocol.specs.Steps.{wanted, allows, page_of, address_item}
 use Rattle.dsm_protocol.specs.Jobs.{Job, Note, Give, Go, Move, Append, Map_own, Soil, Clean, Join, Count, Happen, Passed, Acquired, Sent, Told as Told_all, Began, Fetched}
-use Rattle.dsm_protocol.specs.Stages.{Cause, Fault, Closing, Seeker, For_fault, For_release, Part, Whole, First, Got, Differs, Half, Stage, Mapped, Asked, Seeking, Missing, Clearing, Registering, Sharing, Wanting, Parting, Visiting, Looking, Breaking, Marking, Saving, Ending, Broken, Broadcast, Parted, Back, Testing, Claiming, Claimed, Withdrawing, Entering, Filling, Filled, Entered, Ready, Compared, Fetching, Opened, Copying, Copied, Current, Making, Setting, Soiling, Giving, Released, Checking, Drawing, Timed, Flushing, Stamping, Stamped, Posting, Posted, Telling, Lowering, Dropping, Untwining, Unlisting, Done, Acquiring, Judging, Judged, Unmapping, Emptying, Emptied, Leaving, Over, Round, Idle, Waiting, Passing, Finished, Closed, Stopping, Access, Loaded, Stored, Collecting, Releasing, Cleaning, Draining, Hearing, Noticing, Flagging, Drained, Taking, Told, Closes, Holder, Work, Off, On, Gone, found, held_alone, departed, lowered}
+use Rattle.dsm_protocol.specs.Stages.{Cause, Fault, Closing, Seeker, For_fault, For_release, Part, Whole, First, Got, Differs, Half, Stage, Mapped, Asked, Seeking, Missing, Clearing, Registering, Sharing, Wanting, Parting, Visiting, Looking, Breaking, Marking, Saving, Ending, Broken, Broadcast, Parted, Back, Testing, Claiming, Claimed, Withdrawing, Entering, Filling, Filled, Entered, Ready, Compared, Fetching, Opened, Copying, Copied, Current, Making, Setting, Soiling, Giving, Released, Checking, Drawing, Timed, Flushing, Stamping, Stamped, Posting, Posted, Telling, Lowering, Dropping, Untwining, Unlisting, Done, Acquiring, Judging, Judged, Unmapping, Emptying, Emptied, Leaving, Over, Round, Idle, Waiting, Signalling, Admitted, Arrived, Dismissed, Quitting, Passing, Finished, Closed, Stopping, Access, Loaded, Stored, Collecting, Releasing, Cleaning, Draining, Hearing, Noticing, Flagging, Drained, Taking, Told, Closes, Holder, Work, Off, On, Gone, found, held_alone, departed, lowered}
 
 -- the first word of a fetch is a moment of its own
 abbrev pub loaded : ℕ → ℕ → Part
 loaded i x = if i == 0 then First x else Got x
 
--- a count, or an entry that is no load and no store; in protocol work no entry, and no look
+-- a count, or an entry of what is printed; in protocol work no entry, and no look
 abbrev pub IsPlain : Option Job → Note → Type 0
 IsPlain rest (Give d v) = ⊥
 IsPlain rest (Go to) = ⊥
 IsPlain rest Move = ⊥
 IsPlain rest (Append (Load w v)) = ⊥
 IsPlain rest (Append (Store w v)) = ⊥
+IsPlain rest (Append (Signal of j)) = ⊥
+IsPlain rest (Append (Pass of c)) = ⊥
 IsPlain rest (Append e) = rest ≡ None
 IsPlain rest (Map_own g k) = ⊥
 IsPlain rest (Soil g) = ⊥
@@ -35,6 +39,11 @@ IsPlain rest (Join set) = ⊥
 IsPlain rest (Happen d) = ⊥
 IsPlain rest (Count Unready) = rest ≡ None
 IsPlain rest _ = Unit {0}
+
+-- it is the closing barrier
+abbrev pub is_close : Obj → Bool
+is_close CloseOf = true
+is_close of = false
 
 -- the operations of processor u, whose mappings and dirty pages these are
 module _ (u : Who) (maps : List ℕ) (dirty : List Bool) where
@@ -157,7 +166,9 @@ module _ (u : Who) (maps : List ℕ) (dirty : List Bool) where
     tells : Slip (Off Waiting) (Off Stopping)
     finished : Slip (Off Waiting) (Off Finished)
     ends : Slip (Off Finished) Gone
-    halts : Slip (Off Closed) Gone
+    -- at the closing barrier another one has stopped, and this is its end; its looks are used up
+    forsaken : Slip (Off Arrived) Gone
+    despairs : Slip (Off Arrived) (Off Stopping)
     -- on a page
     shared : {r : Round} {g h : ℕ} {write : Bool} {row : Row} → Slip (On r g (Sharing write h u.lay.nodes row)) (On r g (if row.busy == 0 then (if write && not row.others then Testing h else Ready write h) else Wanting write h row.busy))
     unwanted : {r : Round} {g h busy : ℕ} {write : Bool} → (map_at g == 0) ≡ false → Slip (On r g (Wanting write h busy)) (On r g (Parting write h busy))
@@ -174,7 +185,7 @@ module _ (u : Who) (maps : List ℕ) (dirty : List Bool) where
     emptied : {r : Round} {g : ℕ} {free : Bool} → Slip (On r g (Emptying (node_of u * u.lay.procs + u.lay.procs) free)) (On r g (if free then Emptied else Over))
     -- on no page
     clean : {t0 g : ℕ} → slice_index_or dirty g false ≡ false → Slip (Off (Releasing t0 g)) (Off (Releasing t0 (g + 1)))
-    released : {t0 : ℕ} → Slip (Off (Releasing t0 u.lay.pages)) (Off Waiting)
+    released : {t0 : ℕ} → Slip (Off (Releasing t0 u.lay.pages)) (Off (Signalling t0))
     unheard : {j k bits b : ℕ} → (bit_at bits b == 1) ≡ false → Slip (Off (Hearing j k bits b)) (Off (Hearing j k bits (b + 1)))
     heard : {j k bits : ℕ} → Slip (Off (Hearing j k bits (pages_in u.lay k))) (Off (Draining j (k + 1)))
     flagged : {j k bits b : ℕ} → Slip (Off (Flagging j k bits b (node_of u * u.lay.procs + u.lay.procs))) (Off (Hearing j k bits (b + 1)))
@@ -182,8 +193,8 @@ module _ (u : Who) (maps : List ℕ) (dirty : List Bool) where
     drained : Slip (Off (Draining u.lay.nodes 0)) (Off Drained)
     taken : {set : List ℕ} → Slip (Off (Taking (groups u.lay) set)) (Off (Told set 0))
     passed_over : {g : ℕ} {set : List ℕ} → (has_page set g && not (map_at g == 0)) ≡ false → Slip (Off (Told set g)) (Off (Told set (g + 1)))
-    closing : Slip (Off Passing) (Off (Closes 0 0))
-    unclosing : Slip (Off Passing) (Off Closed)
+    closing : (u.p == 0) ≡ true → Slip (Off Quitting) (Off (Closes 0 0))
+    unclosing : (u.p == 0) ≡ false → Slip (Off Quitting) (Off Closed)
     unheld : {g : ℕ} → Slip (Off (Closes g u.lay.nodes)) (Off (Closes (g + 1) 0))
     closed : Slip (Off (Closes u.lay.pages 0)) (Off Closed)
 
@@ -198,12 +209,18 @@ pub data Noted (u : Who) (rest : Option Job) : Work → Note → Work → Type 0
   -- its loads and stores
   appends_load : {w x : ℕ} → rest ≡ None → Noted u rest (Off (Loaded w x)) (Append (Load w x)) (Off Finished)
   appends_store : {w v : ℕ} → rest ≡ None → Noted u rest (Off (Stored w v)) (Append (Store w v)) (Off Finished)
+  -- it signals behind its release, or passes; the closing barrier has places of its own
+  signals : {t0 : ℕ} {of : Obj} {j : ℕ} → rest ≡ None → is_close of ≡ false → Noted u rest (Off (Signalling t0)) (Append (Signal of j)) (Off Waiting)
+  admits : {of : Obj} {c : ℕ} → rest ≡ None → is_close of ≡ false → Noted u rest (Off Waiting) (Append (Pass of c)) (Off Admitted)
+  arrives : {t0 j : ℕ} → rest ≡ None → Noted u rest (Off (Signalling t0)) (Append (Signal CloseOf j)) (Off Arrived)
+  dismisses : {c : ℕ} → rest ≡ None → Noted u rest (Off Arrived) (Append (Pass CloseOf c)) (Off Dismissed)
   -- the instruction is done
   gives : {d v : ℕ} → rest ≡ None → Noted u rest (Off Finished) (Give d v) (Off Idle)
   goes : {to : ℕ} → rest ≡ None → Noted u rest (Off Finished) (Go to) (Off Idle)
   moves : rest ≡ None → Noted u rest (Off Finished) Move (Off Idle)
   -- the moments
-  passes : rest ≡ None → Noted u rest (Off Waiting) (Happen (Passed u.p)) (Off Passing)
+  passes : rest ≡ None → Noted u rest (Off Admitted) (Happen (Passed u.p)) (Off Passing)
+  quits : rest ≡ None → Noted u rest (Off Dismissed) (Happen (Passed u.p)) (Off Quitting)
   acquired : {set : List ℕ} → Noted u rest (Off (Told set u.lay.pages)) (Happen (Acquired u.p)) (Off Finished)
   begins_copy : {r : Round} {g h t v : ℕ} {write twin : Bool} → Noted u rest (On r g (Copying write h t twin 0 (First v))) (Happen (Began (node_of u) g)) (On r g (Copying write h t twin 0 (Got v)))
   begins_fill : {r : Round} {g h t v : ℕ} → Noted u rest (On r g (Filling h t 0 (First v))) (Happen (Began (node_of u) g)) (On r g (Filling h t 0 (Got v)))

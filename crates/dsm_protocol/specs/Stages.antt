@@ -108,9 +108,19 @@ pub data Stage : Type 0 where
 pub data Round : Type 0 where
   -- the next instruction has not begun
   Idle : Round
-  -- it does no protocol work, and no release in this instruction any more; it has passed an object, and its acquire or the closing work comes;
-  -- no protocol work comes in this instruction any more; nor in any other one
+  -- it does no protocol work, and no release in this instruction any more
   Waiting : Round
+  -- its release, which began at this time, is over, and it signals next
+  Signalling : ℕ → Round
+  -- it has passed an object, as its trace says, and the moment is still to be noted
+  Admitted : Round
+  -- it has arrived at the closing barrier, and waits for all
+  Arrived : Round
+  -- it has passed the closing barrier, as its trace says, and the moment is still to be noted
+  Dismissed : Round
+  -- it has passed the closing barrier, and the closing work or its end comes
+  Quitting : Round
+  -- its acquire comes; no protocol work comes in this instruction any more; nor in any other one, since it has halted
   Passing : Round
   Finished : Round
   Closed : Round

@@ -2,8 +2,10 @@
 use Rattle.std.specs.Prelude.{◌≡◌, ◌≢◌, ℕ, ◌+◌, ◌<◌, Bool, true, false, List, Option, None, Some}
 use Rattle.dsm_isa.specs.declared.instr.Instr.{Instr}
 use Rattle.dsm_local.specs.declared.end.End.{End as Ending_of}
+use Rattle.dsm_local.specs.declared.end.End.TheVariants.{Halted}
 use Rattle.dsm_words.specs.declared.item.Item.{Item}
 use Rattle.dsm_words.specs.declared.item.Item.TheVariants.{Stop, Lock, Barrier, Flag, Close}
+use Rattle.dsm_sync.specs.declared.counter.Counter.TheVariants.{Close as CloseWord}
 use Rattle.dsm_words.specs.Place.{IsWithin, processors}
 use Rattle.dsm_words.specs.Script.{Act, Get, Change, item_of}
 use Rattle.dsm_clock.specs.declared.turns.TurnId.{TurnId}
@@ -13,7 +15,7 @@ use Rattle.dsm_protocol.specs.declared.head.Head.TheVariants.{Instruction, Locki
 use Rattle.dsm_protocol.specs.Own.{Own, Who}
 use Rattle.dsm_protocol.specs.Jobs.{Job, Make, Again, Mark, Ask, Begin, Ended, Note, own_after, first_act, is_ready, has_ended, held_turn}
 use Rattle.dsm_protocol.specs.Processors.{Processor, Given, IsMade, wanting, after_given}
-use Rattle.dsm_protocol.specs.Stages.{Round, Idle, Waiting, Passing, Finished, Closed, Stopping, Access, Work, Off, Gone, turn_at}
+use Rattle.dsm_protocol.specs.Stages.{Round, Idle, Waiting, Signalling, Arrived, Quitting, Passing, Finished, Closed, Stopping, Access, Work, Off, Gone, turn_at}
 use Rattle.dsm_protocol.specs.Rows.{Step, Wins, Slip, Noted}
 
 -- it loads or changes a word of synchronisation, or loads the stop word
@@ -28,11 +30,20 @@ abbrev pub IsAside : Act → Type 0
 IsAside (Get Stop) = Unit {0}
 IsAside a = IsObject (item_of a)
 
+-- operations aside are made there
+abbrev pub IsOpen : Round → Type 0
+IsOpen Waiting = Unit {0}
+IsOpen Arrived = Unit {0}
+IsOpen (Signalling t0) = Unit {0}
+IsOpen _ = ⊥
+
 -- protocol work begins and ends there
 abbrev pub IsResting : Round → Type 0
 IsResting Idle = Unit {0}
 IsResting Waiting = Unit {0}
+IsResting (Signalling t0) = Unit {0}
 IsResting Passing = Unit {0}
+IsResting Quitting = Unit {0}
 IsResting Finished = Unit {0}
 IsResting Closed = Unit {0}
 IsResting (Access faulted write a) = Unit {0}
@@ -42,7 +53,13 @@ IsResting _ = ⊥
 abbrev pub at_head : Head → Round
 at_head Instruction = Idle
 at_head (Locking l) = Waiting
+at_head (Looking CloseWord need) = Arrived
 at_head (Looking of need) = Waiting
+
+-- the end of a processor that has done all its code
+abbrev pub is_halt : Ending_of → Bool
+is_halt Halted = true
+is_halt e = false
 
 -- A processor that stands at w and holds o does this job, by rows alone. The rest is the job with which protocol work ends; where there is none,
 -- the job is all that the processor does, with operations aside, heads and the end.
@@ -53,9 +70,16 @@ pub data Works (u : Who) (rest : Option Job) : Work → Own → Job → Type 0 w
   Asks : {w : Work} {o : Own} {f : Own → Job} → ((p : Own) → Works u rest w p (f p)) → Works u rest w o (Ask f)
   Slips : {w w' : Work} {o : Own} {j : Job} → Slip u o.maps o.dirty w w' → Works u rest w' o j → Works u rest w o j
   Rests : {r : Round} {o : Own} {j : Job} → rest ≡ Some j → IsResting r → Works u rest (Off r) o j
-  Asides : {o : Own} {a : Act} {k : ℕ → Job} → rest ≡ None → IsAside a → ((x : ℕ) → Works u rest (Off Waiting) o (k x)) → Works u rest (Off Waiting) o (Make a k)
+  Asides : {r : Round} {o : Own} {a : Act} {k : ℕ → Job} → rest ≡ None → IsOpen r → IsAside a → ((x : ℕ) → Works u rest (Off r) o (k x)) → Works u rest (Off r) o (Make a k)
   Begins : {o : Own} {h : Head} → rest ≡ None → Works u rest (Off (at_head h)) o (Begin h)
-  Ends : {o : Own} {e : Ending_of} → rest ≡ None → Works u rest Gone o (Ended e)
+  Ends : {o : Own} {e : Ending_of} → rest ≡ None → is_halt e ≡ false → Works u rest Gone o (Ended e)
+  Halts : {o : Own} → rest ≡ None → Works u rest (Off Closed) o (Ended Halted)
+
+-- One that has halted stands behind the closing work, and one that has ended otherwise is gone.
+abbrev pub EndsAt : Job → Work → Type 0
+EndsAt (Ended Halted) w = w ≡ Off Closed
+EndsAt (Ended e) w = w ≡ Gone
+EndsAt j w = Unit {0}
 
 -- The processor stands at w: before an operation, or at its end, by the table it does what it has to do, and there it holds the turn that its
 -- job gives back.
@@ -63,6 +87,7 @@ pub record Stands (u : Who) (w : Work) (m : Processor) : Type 0 where
   pub works : Works u None w m.own m.todo
   pub holds : held_turn m.todo ≡ turn_at u w
   pub ready : is_ready m.todo ≡ true
+  pub over : EndsAt m.todo w
 
 -- Decisions and notes, one behind the other, lead from one place to another, and change what the processor holds by the notes alone.
 pub data Path (u : Who) : Work → Own → Work → Own → Type 0 where
@@ -75,7 +100,7 @@ pub data Does (u : Who) (o : Own) : Work → Act → ℕ → Work → Type 0 whe
   Row : {w w' : Work} {a : Act} {x : ℕ} → IsWithin u.lay (item_of a) → Step u o.maps o.dirty w a x w' → Does u o w a x w'
   Won : {w w' : Work} {x : ℕ} (turn : TurnId) → IsWithin u.lay (turn_item turn) → Wins u o.maps o.dirty w turn w' → x ≡ 0 → Does u o w (Change (turn_item turn) 0 (u.p + 1)) x w'
   Lost : {w w' : Work} {x : ℕ} (turn : TurnId) → IsWithin u.lay (turn_item turn) → Wins u o.maps o.dirty w turn w' → x ≢ 0 → Does u o w (Change (turn_item turn) 0 (u.p + 1)) x w
-  Aside : {a : Act} {x : ℕ} → IsAside a → Does u o (Off Waiting) a x (Off Waiting)
+  Aside : {r : Round} {a : Act} {x : ℕ} → IsOpen r → IsAside a → Does u o (Off r) a x (Off r)
 
 -- One event of a processor at w that holds o, with operation a and answer x, leads to this processor at v: decisions, the operation, then
 -- decisions and notes. Nothing else changes what it holds.

@@ -1,9 +1,7 @@
-pub mod Accesses
 pub mod Agreeing
 pub mod Alive
 pub mod Counting
 pub mod Events
-pub mod FlatRuns
 pub mod Histories
 pub mod Holding
 pub mod Keeping
@@ -12,8 +10,6 @@ pub mod Lists
 pub mod Logs
 pub mod Mapped
 pub mod Mappings
-pub mod OneNode
-pub mod OffFrames
 pub mod Owing
 pub mod Promising
 pub mod Reaching

@@ -15,14 +15,13 @@ use Rattle.dsm_runs.specs.Setups.{Setup, IsSetup, who_at}
 use Rattle.dsm_runs.specs.Clusters.{Event, exactly, given_by, reached}
 use Rattle.dsm_runs.specs.Outcomes.{ran_of}
 use Rattle.dsm_runs.specs.Stopping.{HasToldAll}
-use Rattle.dsm_runs.specs.Promises.{AllLocal, AllTold, Promises, EveryRunKeepsThem, WordPromise, OneNodeKeepsWords, AloneIsOrdered}
+use Rattle.dsm_runs.specs.Promises.{AllLocal, AllTold, Promises, EveryRunKeepsThem, AloneIsOrdered}
 use Rattle.dsm_runs.proofs.Lists.{some_one}
 use Rattle.dsm_runs.proofs.Reaching.{reached_is_loose, reached_given, length-reached}
 use Rattle.dsm_runs.proofs.Stops.{every_stopped}
-use Rattle.dsm_runs.proofs.Legality.{every_sync_legal, every_log_legal}
+use Rattle.dsm_runs.proofs.Legality.{every_sync_legal}
 use Rattle.dsm_flat.specs.Flat.{Ordered}
 use Rattle.dsm_flat.proofs.OrderLaws.{Ordered-one}
-use Rattle.dsm_runs.proofs.FlatRuns.{flat_where_legal}
 
 -- an item of what is made of a list is made of an item of it
 pub item_of_map : {X Y : Type 0} (f : X → Y) (xs : List X) (p : ℕ) (y : Y) → slice_get (map f xs) p ≡ Some y → (x : X) × (slice_get xs p ≡ Some x) × (y ≡ f x)
@@ -63,11 +62,6 @@ reached_told s events few p b at =
 reached_legal : (s : Setup) (events : List Event) → IsSetup s → SyncLegal (ran_of s (reached s events)).traces (s.nodes * s.procs)
 reached_legal s events setup = subst (λ c. SyncLegal (ran_of s c).traces (s.nodes * s.procs)) (sym (reached_is_loose s events)) (every_sync_legal s (map exactly events) setup)
 
-reached_flat : (s : Setup) (events : List Event) → IsSetup s → s.nodes ≡ 1 → (w : ℕ) → WordPromise s (ran_of s (reached s events)) w
-reached_flat s events setup one w =
-    let all = flat_where_legal s one (s.nodes * s.procs) events (every_log_legal s setup (map exactly events)) in
-    record { sourced = all.sourced w; flat = all.flat w; last = λ ordered halted below. all.last w below ordered }
-
 -- one processor leaves one trace
 alone_ordered : (ps : List Processor) (w : ℕ) → length ps ≡ 1 → Ordered (map (λ m. m.own.trace) ps) w
 alone_ordered [] w one = absurd (omega (arith, one))
@@ -86,9 +80,6 @@ every_run s events ran setup outcome =
       told = reached_told s events few;
       legal = reached_legal s events setup;
     })
-
-pub one_node_keeps_words : OneNodeKeepsWords
-one_node_keeps_words s events ran setup one outcome w = subst (λ r. WordPromise s r w) outcome.leaves (reached_flat s events setup one w)
 
 pub alone_is_ordered : AloneIsOrdered
 alone_is_ordered s events ran one outcome w = subst (λ r. Ordered r.traces w) outcome.leaves (reached_alone s events one w)

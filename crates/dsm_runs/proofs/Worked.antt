@@ -4,7 +4,7 @@ use Rattle.dsm_words.specs.Words.{word, done, reply}
 use Rattle.dsm_runs.specs.Clusters.{start, reached, after, after_loose, after_all_loose, given_behind, all_defined}
 use Rattle.dsm_runs.specs.Moments.{history}
 use Rattle.dsm_protocol.specs.Processors.{processor_of}
-use Rattle.dsm_runs.specs.Examples.{Halts, StoresAndLoads, LoadsRemotely, Overwrites, MergesAndFlushes, GoesAsTold, IsBrokenByAVisit, KeepsTheWantedMapping, WithdrawsItsClaim, CoalescesAFlush, BreaksOnce, LocksInTurn, LockWordCounts, LooksAtALock, MeetTwice, PassesAtTheThirdLook, BothLook, StoppedByATrap, TrapsAtOnce, UnlocksOnce, StoppedByAStarved, SpendsTwo, NoneBehindTheEnd, NoneStarvedWithATurn, LoadsLoosely, IsWhatItWasGiven, Starts, HasItsMoments, GivesEachItsOwn}
+use Rattle.dsm_runs.specs.Examples.{Halts, StoresAndLoads, LoadsRemotely, Overwrites, MergesAndFlushes, GoesAsTold, IsBrokenByAVisit, KeepsTheWantedMapping, WithdrawsItsClaim, CoalescesAFlush, BreaksOnce, LocksInTurn, LockWordCounts, LooksAtALock, MeetTwice, PassesAtTheThirdLook, BothLook, StoppedByATrap, TrapsAtOnce, UnlocksOnce, StoppedByAStarved, SpendsTwo, NoneBehindTheEnd, NoneStarvedWithATurn, LoadsLoosely, IsWhatItWasGiven, Starts, HasItsMoments, NotesItsBreaks, NotesALateTelling, NotesWhoKeeps, NotesNoSend, NotesThreeGroups, GivesEachItsOwn, numbered}
 
 pub halts : Halts
 unfolding start reached after all_defined after_loose done reply word
@@ -115,8 +115,28 @@ unfolding word
 starts = (refl, refl, refl)
 
 pub has_its_moments : HasItsMoments
-unfolding start history after_loose done reply
-has_its_moments = refl
+unfolding start numbered history all_defined after_loose done reply
+has_its_moments = record { defined = refl; numbers = refl; moments = refl }
+
+pub notes_its_breaks : NotesItsBreaks
+unfolding start numbered history all_defined after_loose done reply
+notes_its_breaks = record { defined = refl; numbers = refl; moments = refl }
+
+pub notes_a_late_telling : NotesALateTelling
+unfolding start numbered history all_defined after_loose done reply
+notes_a_late_telling = record { defined = refl; numbers = refl; moments = refl }
+
+pub notes_who_keeps : NotesWhoKeeps
+unfolding start reached after numbered history all_defined after_loose done reply word
+notes_who_keeps = (record { defined = refl; numbers = refl; moments = refl }, refl, refl)
+
+pub notes_no_send : NotesNoSend
+unfolding start reached after numbered history all_defined after_loose done reply word
+notes_no_send = (record { defined = refl; numbers = refl; moments = refl }, refl, refl)
+
+pub notes_three_groups : NotesThreeGroups
+unfolding start reached after numbered history all_defined after_loose done reply word
+notes_three_groups = (record { defined = refl; numbers = refl; moments = refl }, refl)
 
 pub gives_each_its_own : GivesEachItsOwn
 unfolding start given_behind after_loose done reply

@@ -1,5 +1,5 @@
 -- Small runs, worked out from the sentences on what a processor does, and computed by the checker.
-use Rattle.std.specs.Prelude.{◌≡◌, ℕ, Bool, true, false, List, [], ◌∷◌, ◌++◌, length, replicate, Option, None, Some, flat_map, map}
+use Rattle.std.specs.Prelude.{◌≡◌, ℕ, ◌+◌, Bool, true, false, List, [], ◌∷◌, ◌++◌, length, replicate, Option, None, Some, flat_map, map, slice_get}
 use Rattle.std.specs.List.{range_with_len}
 use Rattle.dsm_entry.specs.declared.entry.Entry.TheVariants.{Load, Store, Signal, Pass, Out}
 use Rattle.dsm_entry.specs.declared.entry.Obj.TheVariants.{Lock as OfLock, Barrier as OfBarrier, Flag as OfFlag, Close as OfClose}
@@ -13,11 +13,11 @@ use Rattle.dsm_words.specs.Place.{total}
 use Rattle.dsm_words.specs.Words.{word}
 use Rattle.dsm_local.specs.declared.end.End.TheVariants.{Halted, Trapped, Spent, Looked, Stopped, NoMemory}
 use Rattle.dsm_protocol.specs.Own.{no_counts}
-use Rattle.dsm_protocol.specs.Jobs.{Passed, Acquired, Sent, Told, Began, Fetched}
+use Rattle.dsm_protocol.specs.Jobs.{Moment, Passed, Acquired, Sent, Told, Began, Fetched}
 use Rattle.dsm_protocol.specs.Processors.{Given, next_op, ending, processor_of}
 use Rattle.dsm_runs.specs.Setups.{Setup, lay_in, who_at, first_words}
-use Rattle.dsm_runs.specs.Clusters.{Event, start, exactly, after_all_loose, given_by, all_defined, reached}
-use Rattle.dsm_runs.specs.Moments.{history}
+use Rattle.dsm_runs.specs.Clusters.{Cluster, Event, AreDefined, start, exactly, after_event, after_all_loose, given_by, all_defined, reached}
+use Rattle.dsm_runs.specs.Moments.{history, moments_if}
 use Rattle.dsm_runs.specs.Outcomes.{Outcome}
 
 -- so many nodes with so many processors each, and one page of so many words with these first values, one lock, one barrier and one flag
@@ -43,6 +43,10 @@ with_turns turns s = record s { limits = record { turns = turns; looks = s.limit
 
 abbrev pub with_looks : ℕ → Setup → Setup
 with_looks looks s = record s { limits = record { turns = s.limits.turns; looks = Some looks } }
+
+-- so many pages
+abbrev pub with_pages : ℕ → Setup → Setup
+with_pages pages s = record s { program = record s.program { shape = record s.program.shape { pages = pages } } }
 
 -- events of these processors, one after the other, and one without memory
 abbrev pub of_all : List ℕ → List Event
@@ -384,12 +388,188 @@ IsWhatItWasGiven =
     × ((processor_of (who_at dividing 0) (Wait 0 2 ∷ []) (told (3 ∷ 0 ∷ 1 ∷ []))).own.trace ≡ Pass (OfFlag 0) 3 ∷ [])
     × (next_op (who_at dividing 0) (processor_of (who_at dividing 0) (Unlock 0 ∷ []) []) ≡ Some (Exchange 0 0 1))
 
--- The history of the run with a merge and a flush: node 1 fetches the page; node 0 sends it, and tells; processor 1 passes the flag and acquires; its node
--- fetches the page again, and sends it.
+-- The moments of a list of events, each with the number of its event; the first event has number k.
+unfoldable pub numbered : Setup → Cluster → ℕ → List Event → List (ℕ × Moment)
+numbered s c k [] = []
+numbered s c k (e ∷ es) = map (λ d. (k, d)) (moments_if s c e None (slice_get c.processors e.p)) ++ numbered s (after_event s c e) (k + 1) es
+
+-- These events can be from the start on, and their history is these moments, each in the event with its number; the first event has number 1.
+pub record HasMoments (s : Setup) (events : List Event) (noted : List (ℕ × Moment)) : Type 0 where
+  pub defined : AreDefined s events
+  pub numbers : numbered s (start s) 1 events ≡ noted
+  pub moments : history s (start s) (map exactly events) ≡ map (λ m. m.1) noted
+
+-- The run with a merge and a flush. Processor 1 stores for the first time: node 1 overwrites its frame, in events 28 to 31. Processor 0 stores and
+-- releases: the home stores the time of its flush in event 58, and the last word of the directory that it looks at for its notices is that of event 61.
+-- Processor 1 finds the flag set, and its acquire, which unmaps the page, ends where it gives the page's turn back. Its next load merges, in events 91 to
+-- 96. Its last release flushes, notes the time in event 119, and looks at the directory for the last time in event 121. Both find that all have arrived.
 abbrev pub HasItsMoments : Type 0
 HasItsMoments =
-    history merging (start merging) (map exactly merging_events)
-    ≡ Began 1 0 ∷ Fetched 1 0 ∷ Sent 0 0 ∷ Told 0 0 ∷ Passed 1 ∷ Acquired 1 ∷ Began 1 0 ∷ Fetched 1 0 ∷ Sent 1 0 ∷ Told 1 0 ∷ Passed 1 ∷ Passed 0 ∷ []
+    HasMoments merging merging_events
+    ((28, Began 1 0)
+    ∷ (31, Fetched 1 0)
+    ∷ (58, Sent 0 0)
+    ∷ (61, Told 0 0)
+    ∷ (65, Passed 1)
+    ∷ (81, Acquired 1)
+    ∷ (91, Began 1 0)
+    ∷ (96, Fetched 1 0)
+    ∷ (119, Sent 1 0)
+    ∷ (121, Told 1 0)
+    ∷ (126, Passed 1)
+    ∷ (127, Passed 0)
+    ∷ [])
+
+-- The copy of an enter, and the two ways to break. Two pages of one word. Node 0 has become the home of page 0 and has not yet registered (events 1 to 6),
+-- when processor 1 stores to it: node 1 enters, and copies the home's word in events 21 and 22. It is itself the home of page 1, to which processor 1
+-- stores next: there it enters without a copy (to event 43). Processor 0 goes on, and visits node 1: the last operation of the break of page 0 is event 58,
+-- with which the page is sent and all are told. Processor 1's last release flushes this page once more: events 75 and 77. Processor 0 finds that both have
+-- arrived, and its closing work breaks page 1 at its home, which ends with event 96. Then processor 1 finds the same.
+abbrev pub breaking : Setup
+breaking = with_pages 2 (cluster 2 1 1 [] (Me 1 ∷ Bne 1 2 4 ∷ Ld 3 2 0 ∷ Halt ∷ St 1 2 0 ∷ St 1 2 1 ∷ Halt ∷ []))
+
+abbrev pub NotesItsBreaks : Type 0
+NotesItsBreaks =
+    HasMoments breaking (in_order ((0, 6) ∷ (1, 37) ∷ (0, 21) ∷ (1, 18) ∷ (0, 15) ∷ (1, 1) ∷ []))
+    ((21, Began 1 0)
+    ∷ (22, Fetched 1 0)
+    ∷ (58, Sent 1 0)
+    ∷ (58, Told 1 0)
+    ∷ (75, Sent 1 0)
+    ∷ (77, Told 1 0)
+    ∷ (86, Passed 0)
+    ∷ (96, Sent 1 1)
+    ∷ (96, Told 1 1)
+    ∷ (98, Passed 1)
+    ∷ [])
+
+-- A send that is told late. One page of two words. Node 0 becomes its home, and registers (events 1 to 9); processor 1 stores to word 1 behind a copy of
+-- events 25 to 28; processor 0 stores to word 0. Processor 1 releases: the flush is noted in event 59, and nobody is told yet. Processor 0 releases: sent
+-- with event 67, told with event 71. Processor 2 passes the flag, and was told of no page: its acquire ends where it takes its own notices, event 84. It
+-- loads word 0: its node registers, and copies both words in events 97 to 100. Only now processor 1 goes on: it finds node 2 in the directory, and posts
+-- it a notice, which is its last operation there, event 108. So behind its second pass processor 2 drops a copy that has all that was sent, and its node
+-- leaves the directory; the acquire ends with event 132.
+abbrev pub late : Setup
+late = cluster 3 1 2 [] (Me 1 ∷ Li 3 2 ∷ Beq 1 3 6 ∷ St 3 1 0 ∷ Set 0 ∷ Halt ∷ Wait 0 1 ∷ Ld 4 2 0 ∷ Wait 0 2 ∷ Halt ∷ [])
+
+abbrev pub late_events : List Event
+late_events = in_order ((0, 9) ∷ (1, 29) ∷ (0, 6) ∷ (1, 15) ∷ (0, 15) ∷ (2, 30) ∷ (1, 9) ∷ (2, 19) ∷ [])
+
+abbrev pub NotesALateTelling : Type 0
+NotesALateTelling =
+    HasMoments late late_events
+    ((25, Began 1 0)
+    ∷ (28, Fetched 1 0)
+    ∷ (59, Sent 1 0)
+    ∷ (67, Sent 0 0)
+    ∷ (71, Told 0 0)
+    ∷ (78, Passed 2)
+    ∷ (84, Acquired 2)
+    ∷ (97, Began 2 0)
+    ∷ (100, Fetched 2 0)
+    ∷ (108, Told 1 0)
+    ∷ (114, Passed 2)
+    ∷ (132, Acquired 2)
+    ∷ [])
+
+-- An acquire that drops a copy, and one that keeps it. Two nodes of two processors, and one page of one word, which starts as 5. Node 0 becomes the home, and
+-- registers (events 1 to 8). Processor 2 loads, and copies for its node in events 22 and 23; processor 3 loads too, which needs no copy. Processor 0 stores
+-- 0 and releases: sent with event 52, told with the notice of event 55. Processor 2 passes, hands the notice on to processor 3, and unmaps the page; its
+-- acquire ends with event 76. Its next load copies in events 86 and 87. Processor 3 passes, finds the page among its own notices, and its node's copy up to
+-- date: it keeps its mapping. Its acquire ends where it gives the page's turn back, event 102, and its load is one operation.
+abbrev pub keeping : Setup
+keeping = cluster 2 2 1 ((0, 5) ∷ []) (Me 1 ∷ Bne 1 2 5 ∷ St 2 2 0 ∷ Set 0 ∷ Halt ∷ Ld 3 2 0 ∷ Wait 0 1 ∷ Ld 3 2 0 ∷ Halt ∷ [])
+
+abbrev pub keeping_runs : List (ℕ × ℕ)
+keeping_runs = (0, 8) ∷ (2, 19) ∷ (3, 12) ∷ (0, 19) ∷ (2, 33) ∷ (3, 12) ∷ []
+
+abbrev pub NotesWhoKeeps : Type 0
+NotesWhoKeeps =
+    HasMoments keeping (in_order keeping_runs)
+    ((22, Began 1 0)
+    ∷ (23, Fetched 1 0)
+    ∷ (52, Sent 0 0)
+    ∷ (55, Told 0 0)
+    ∷ (59, Passed 2)
+    ∷ (76, Acquired 2)
+    ∷ (86, Began 1 0)
+    ∷ (87, Fetched 1 0)
+    ∷ (92, Passed 3)
+    ∷ (102, Acquired 3)
+    ∷ [])
+    × (map (λ m. m.own.trace) (reached keeping (in_order keeping_runs)).processors
+    ≡ (Store 0 0 ∷ Signal (OfFlag 0) 0 ∷ [])
+    ∷ []
+    ∷ (Load 0 5 ∷ Pass (OfFlag 0) 1 ∷ Load 0 0 ∷ [])
+    ∷ (Load 0 5 ∷ Pass (OfFlag 0) 1 ∷ Load 0 0 ∷ [])
+    ∷ [])
+    × (map (λ m. m.own.counts.unmaps) (reached keeping (in_order keeping_runs)).processors ≡ 0 ∷ 0 ∷ 1 ∷ 0 ∷ [])
+
+-- Releases that send nothing. Two nodes of two processors, and one page of four words, a word for each. Node 0 becomes the home, and registers (events 1 to
+-- 8). Processor 2 stores: node 1 copies in events 22 to 29, and makes a twin. Processor 3 stores by the same copy. Processors 0 and 1 store at home.
+-- Processor 1 begins its release, and draws its time (event 73); then processor 0 releases: sent with event 82, told with event 85. So processor 1 finds a
+-- later flush, and notes nothing. Processor 3 passes, and unmaps the page, which is still dirty; its acquire ends with event 115. Processor 2's release
+-- flushes what both stored: sent with event 137, told with event 139; and it drops the twin. Processor 3's release finds no twin. It stores the time of a
+-- flush in event 154, and looks in the directory whom to tell in events 155 and 156, but it sends nothing, and notes nothing.
+abbrev pub sending_nothing : Setup
+sending_nothing = cluster 2 2 4 [] (Me 1 ∷ Li 3 3 ∷ St 1 1 0 ∷ Bne 1 3 5 ∷ Wait 0 1 ∷ Set 0 ∷ Halt ∷ [])
+
+abbrev pub sending_nothing_runs : List (ℕ × ℕ)
+sending_nothing_runs = (0, 8) ∷ (2, 35) ∷ (3, 13) ∷ (0, 5) ∷ (1, 12) ∷ (0, 15) ∷ (1, 8) ∷ (3, 19) ∷ (2, 30) ∷ []
+
+abbrev pub NotesNoSend : Type 0
+NotesNoSend =
+    let events = in_order (sending_nothing_runs ++ (3, 13) ∷ []) in
+    HasMoments sending_nothing events
+    ((22, Began 1 0)
+    ∷ (29, Fetched 1 0)
+    ∷ (82, Sent 0 0)
+    ∷ (85, Told 0 0)
+    ∷ (98, Passed 3)
+    ∷ (115, Acquired 3)
+    ∷ (137, Sent 1 0)
+    ∷ (139, Told 1 0)
+    ∷ [])
+    × (map (word (lay_in sending_nothing) (reached sending_nothing (in_order sending_nothing_runs)).words)
+    (Flush 0 0 ∷ Flush 1 0 ∷ Twined 1 0 ∷ Frame 0 0 0 ∷ Frame 0 0 1 ∷ Frame 0 0 2 ∷ Frame 0 0 3 ∷ [])
+    ≡ 3 ∷ 4 ∷ 0 ∷ 0 ∷ 1 ∷ 2 ∷ 3 ∷ [])
+    × (map (word (lay_in sending_nothing) (reached sending_nothing events).words) (Flush 0 0 ∷ Flush 1 0 ∷ []) ≡ 3 ∷ 6 ∷ [])
+
+-- 130 pages of one word, and notices in three groups. Node 1 is the home of pages 0, 64 and 129. Processor 0 loads each while processor 1, which stores to
+-- it, has registered and not yet looked who else uses it. Processor 1 sets the flag: its release sends and tells the three pages, one behind the other. The
+-- notices for node 0 are bit 0 of group 0, bit 0 of group 1 and bit 1 of group 2. Processor 0 passes, takes all three, and unmaps three pages; its acquire
+-- ends with event 174. It loads the last page again.
+abbrev pub spreading : Setup
+spreading =
+    with_pages 130
+    (cluster 2 1 1 []
+    (Me 1 ∷ Bne 1 2 8 ∷ Ld 3 2 0 ∷ Ld 3 2 64 ∷ Ld 3 2 129 ∷ Wait 0 1 ∷ Ld 3 2 129 ∷ Halt ∷ St 1 2 0 ∷ St 1 2 64 ∷ St 1 2 129 ∷ Set 0 ∷ Halt ∷ []))
+
+-- up to the set of the flag
+abbrev pub spreading_runs : List (ℕ × ℕ)
+spreading_runs = (1, 8) ∷ (0, 19) ∷ (1, 11) ∷ (0, 17) ∷ (1, 11) ∷ (0, 17) ∷ (1, 43) ∷ []
+
+abbrev pub NotesThreeGroups : Type 0
+NotesThreeGroups =
+    HasMoments spreading (in_order (spreading_runs ++ (0, 61) ∷ []))
+    ((22, Began 0 0)
+    ∷ (23, Fetched 0 0)
+    ∷ (50, Began 0 64)
+    ∷ (51, Fetched 0 64)
+    ∷ (78, Began 0 129)
+    ∷ (79, Fetched 0 129)
+    ∷ (98, Sent 1 0)
+    ∷ (101, Told 1 0)
+    ∷ (109, Sent 1 64)
+    ∷ (112, Told 1 64)
+    ∷ (120, Sent 1 129)
+    ∷ (123, Told 1 129)
+    ∷ (127, Passed 0)
+    ∷ (174, Acquired 0)
+    ∷ (186, Began 0 129)
+    ∷ (187, Fetched 0 129)
+    ∷ [])
+    × (map (word (lay_in spreading) (reached spreading (in_order spreading_runs)).words) (Global 0 1 0 ∷ Global 0 1 1 ∷ Global 0 1 2 ∷ []) ≡ 1 ∷ 1 ∷ 2 ∷ [])
 
 -- What the events gave, where processor 1 is starved before its arrival: processor 0 was given a time, no page, the number of its arrival, that of the
 -- arrivals it then found, and the stop word; processor 1 was starved, and found the stop word as 0.

@@ -1,14 +1,14 @@
 -- What is promised of every run.
-use Rattle.std.specs.Prelude.{◌≡◌, ℕ, ◌*◌, ◌<◌, List, Option, Some, slice_get, slice_index}
+use Rattle.std.specs.Prelude.{◌≡◌, ℕ, ◌*◌, List, Option, Some, slice_get}
 use Rattle.dsm_entry.specs.declared.entry.Entry.{Entry}
-use Rattle.dsm_flat.specs.Flat.{Ordered, Flat, Sourced, Final}
+use Rattle.dsm_flat.specs.Flat.{Ordered}
 use Rattle.dsm_flat.specs.Sync.{SyncLegal}
 use Rattle.dsm_local.specs.declared.end.End.{End}
 use Rattle.dsm_local.specs.declared.end.End.TheVariants.{Stopped}
 use Rattle.dsm_local.specs.Local.{Local}
-use Rattle.dsm_runs.specs.Setups.{Setup, IsSetup, initial}
+use Rattle.dsm_runs.specs.Setups.{Setup, IsSetup}
 use Rattle.dsm_runs.specs.Clusters.{Event}
-use Rattle.dsm_runs.specs.Outcomes.{Ran, Outcome, AllHalted}
+use Rattle.dsm_runs.specs.Outcomes.{Ran, Outcome}
 use Rattle.dsm_runs.specs.Stopping.{TellsAll}
 
 -- each trace and end are those of a plain sequential reader of the program
@@ -28,19 +28,6 @@ pub record Promises (s : Setup) (ran : Ran) : Type 0 where
 -- they hold of what any list of events leaves, so at every step of every interleaving
 abbrev pub EveryRunKeepsThem : Type 0
 EveryRunKeepsThem = (s : Setup) (events : List Event) (ran : Ran) → IsSetup s → Outcome s events ran → Promises s ran
-
--- What is promised of word w, whatever its neighbours do: the memory that this speaks of is flat, and knows no page, no node and no copy.
-pub record WordPromise (s : Setup) (ran : Ran) (w : ℕ) : Type 0 where
-  -- no load returned a value that was not there
-  pub sourced : Sourced ran.traces (initial s.program.init w) w
-  -- if its conflicting accesses are ordered, each load of it returned the last store ordered before it,
-  pub flat : Ordered ran.traces w → Flat ran.traces (initial s.program.init w) w
-  -- and once all processors have halted, its home has its last store
-  pub last : Ordered ran.traces w → AllHalted ran.ends → w < s.program.shape.pages * s.program.shape.words → Final ran.traces (initial s.program.init w) w (slice_index ran.pages w)
-
--- on one node it holds of each word, of what any list of events leaves
-abbrev pub OneNodeKeepsWords : Type 0
-OneNodeKeepsWords = (s : Setup) (events : List Event) (ran : Ran) → IsSetup s → s.nodes ≡ 1 → Outcome s events ran → (w : ℕ) → WordPromise s ran w
 
 -- where a processor is alone, each word is ordered
 abbrev pub AloneIsOrdered : Type 0

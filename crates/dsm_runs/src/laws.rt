@@ -4,8 +4,8 @@ ghost use Rattle.dsm_runs.specs.Stopping.{EveryStopIsTold, EveryStoppedIsTold};
 ghost use Rattle.dsm_runs.specs.Wanting.{EveryWantIsStarved};
 ghost use Rattle.dsm_runs.specs.Legality.{EverySyncIsLegal};
 ghost use Rattle.dsm_runs.specs.Turning.{MapsAreItsOwn, MapsAreStoredByTheirOwn, HoldsItsTurn, TriesHoldingNone, EachTurnIsHeld, NoCircle, MappedLoadIsOneOperation, MappedStoreIsOneOperation};
-ghost use Rattle.dsm_runs.specs.Promises.{EveryRunKeepsThem, OneNodeKeepsWords, AloneIsOrdered};
-ghost use Rattle.dsm_runs.specs.Examples.{Halts, StoresAndLoads, LoadsRemotely, Overwrites, MergesAndFlushes, GoesAsTold, IsBrokenByAVisit, KeepsTheWantedMapping, WithdrawsItsClaim, CoalescesAFlush, BreaksOnce, LocksInTurn, LockWordCounts, LooksAtALock, MeetTwice, PassesAtTheThirdLook, BothLook, StoppedByATrap, TrapsAtOnce, UnlocksOnce, StoppedByAStarved, SpendsTwo, NoneBehindTheEnd, NoneStarvedWithATurn, LoadsLoosely, IsWhatItWasGiven, Starts, HasItsMoments, GivesEachItsOwn};
+ghost use Rattle.dsm_runs.specs.Promises.{EveryRunKeepsThem, AloneIsOrdered};
+ghost use Rattle.dsm_runs.specs.Examples.{Halts, StoresAndLoads, LoadsRemotely, Overwrites, MergesAndFlushes, GoesAsTold, IsBrokenByAVisit, KeepsTheWantedMapping, WithdrawsItsClaim, CoalescesAFlush, BreaksOnce, LocksInTurn, LockWordCounts, LooksAtALock, MeetTwice, PassesAtTheThirdLook, BothLook, StoppedByATrap, TrapsAtOnce, UnlocksOnce, StoppedByAStarved, SpendsTwo, NoneBehindTheEnd, NoneStarvedWithATurn, LoadsLoosely, IsWhatItWasGiven, Starts, HasItsMoments, NotesItsBreaks, NotesALateTelling, NotesWhoKeeps, NotesNoSend, NotesThreeGroups, GivesEachItsOwn};
 
 /// What holds of every state, and what one event changes. It does nothing: its clauses are what it is for.
 pub fn core_law()
@@ -75,15 +75,9 @@ pub fn run_law()
     // Each processor did what its program says, and synchronisation was legal. It holds of what any list of events leaves,
     // and so at every step of every interleaving.
     ensures runs { EveryRunKeepsThem }
-    // And no event changes another processor's mapping.
+    // No event changes another processor's mapping.
     ensures mappings { LeavesOtherMappings }
-{}
-
-/// The headline on one node. It does nothing: its clauses are what it is for.
-pub fn one_node_law()
-    // What is promised of a word holds of each, of what any list of events leaves.
-    ensures words { OneNodeKeepsWords }
-    // Where a processor is alone, each word is ordered.
+    // And where a processor is alone, each word is ordered.
     ensures alone { AloneIsOrdered }
 {}
 
@@ -143,8 +137,18 @@ pub fn core_examples()
     ensures alone { IsWhatItWasGiven }
     // The words start with the program's values at every node.
     ensures starts { Starts }
-    // The history of a run has its moments in order.
+    // The history of a run with a merge and a flush has its moments, each in its event.
     ensures history { HasItsMoments }
+    // So has that of one with a copy of an enter, a break by a visit, and one by the closing work,
+    ensures breaking { NotesItsBreaks }
+    // of one where a send is told late, and a copy is made between,
+    ensures late { NotesALateTelling }
+    // of one where an acquire drops a copy, and another one keeps it,
+    ensures keeping { NotesWhoKeeps }
+    // of one where two releases send nothing,
+    ensures nothing { NotesNoSend }
+    // and of one with notices in three groups of pages.
+    ensures groups { NotesThreeGroups }
     // What each processor was given is read off the events.
     ensures given { GivesEachItsOwn }
 {}

@@ -6,7 +6,7 @@ use Rattle.dsm_clock.specs.declared.turns.TurnId.{TurnId}
 use Rattle.dsm_directory.specs.declared.row.Row.{Row}
 use Rattle.dsm_protocol.specs.Own.{Who, node_of}
 use Rattle.dsm_protocol.specs.Stages.{Seeker, For_fault, For_release, For_closing, Work}
-use Rattle.dsm_protocol.specs.Rows.{Step, Wins, Slip, sees_dir, seeks, settles, clears, registers, shares, wants, parts, looks, marks, twins_broken, breaks, departs, sees_again, tests, claims, looks_again, withdraws, draws_enter, stamps_enter, enters, compares, judges, draws, stamps, has_twin, made, sets, gives, sees_release, lasts, tests_flush, stamps_flush, posts, lowers, drops, untwins, unlists, finishes, sees_acquire, judges_own, unmaps, empties, sees_bare, leaves, gives_over, collects, stops, faults, visits, returns, releases, acquires, closes, hears, shared, unwanted, marked, claimed, at_home, read_only, posted, unlowered, ends, halts}
+use Rattle.dsm_protocol.specs.Rows.{Step, Wins, Slip, sees_dir, seeks, settles, clears, registers, shares, wants, parts, looks, marks, twins_broken, breaks, departs, sees_again, tests, claims, looks_again, withdraws, draws_enter, stamps_enter, enters, compares, judges, draws, stamps, has_twin, made, sets, gives, sees_release, lasts, tests_flush, stamps_flush, posts, lowers, drops, untwins, unlists, finishes, sees_acquire, judges_own, unmaps, empties, sees_bare, leaves, gives_over, collects, stops, faults, visits, returns, releases, acquires, closes, hears, shared, unwanted, marked, claimed, at_home, read_only, posted, unlowered, ends, forsaken}
 use Rattle.dsm_owners.specs.Directory.{Event}
 use Rattle.dsm_ties.specs.Events.{seek_events, settle_events, share_events, again_events, send_events, lowered_events, drop_events, empty_events, row_events, step_events, win_events, slip_events, is_of, events_at, won_at, slipped_at}
 use Rattle.dsm_ties.proofs.Elsewhere.{AllBy}
@@ -127,7 +127,7 @@ module _ (u : Who) where
     by_slip posted = (refl, tt)
     by_slip (unlowered {flushed = flushed} e) = (refl, by_lowered flushed)
     by_slip ends = (refl, tt)
-    by_slip halts = (refl, tt)
+    by_slip forsaken = (refl, tt)
     by_slip slip = tt
 
     -- so are those of each page

@@ -18,8 +18,8 @@ use Rattle.dsm_local.specs.declared.reader.Reader.{Reader}
 use Rattle.dsm_protocol.specs.Own.{Own, Who, node_of, reader_after}
 use Rattle.dsm_protocol.specs.Jobs.{Job, Note, Give, Go, Move, Append, Map_own, Soil, Clean, Join, Count, Happen, own_after}
 use Rattle.dsm_protocol.specs.Processors.{Processor}
-use Rattle.dsm_protocol.specs.Stages.{Cause, Fault, Closing, Seeker, For_fault, For_release, For_closing, Stage, Mapped, Seeking, Missing, Wanting, Looking, Breaking, Marking, Saving, Ending, Broken, Broadcast, Parted, Testing, Claiming, Withdrawing, Entering, Entered, Ready, Fetching, Copying, Current, Making, Setting, Soiling, Giving, Drawing, Timed, Flushing, Stamping, Posting, Telling, Lowering, Untwining, Unlisting, Done, Judging, Unmapping, Emptied, Leaving, Over, Whole, Differs, Round, Idle, Waiting, Passing, Access, Collecting, Releasing, Cleaning, Draining, Hearing, Noticing, Flagging, Closes, Holder, Work, Off, On, Gone, registered, found, held_alone, departed, lowered}
-use Rattle.dsm_protocol.specs.Rows.{Step, loads, stores, sees_dir, seeks, settles, clears, registers, shares, wants, parts, looks, reads_map, marks, saves, saves_twin, saves_home, twins_broken, breaks, departs, sees_again, tests, claims, looks_again, withdraws, draws_enter, fills, fills_own, stamps_enter, enters, compares, judges, draws, sees_twin, copies, copies_over, merges, merges_own, merges_twin, stamps, has_twin, makes, makes_twin, made, sets, gives, sees_release, lasts, draws_send, tests_flush, flushes, flushes_same, flushes_twin, flushes_home, stamps_flush, reads_dir, posts, lowers, drops, untwins, unlists, finishes, sees_acquire, compares_own, judges_own, unmaps, empties, sees_bare, leaves, gives_over, draws_release, collects, drains, draws_notice, notices, flags, gives_notices, takes, seeks_holder, stops, Wins, faults, visits, returns, releases, hears, acquires, closes, Slip, accesses, waits, tells, finished, ends, halts, shared, unwanted, marked, claimed, at_home, read_only, flushed_all, unsent, posted, untold, unlowered, dropped, emptied, clean, released, unheard, heard, flagged, next_node, drained, taken, passed_over, closing, unclosing, unheld, closed, Noted, maps, soils, cleans, joins, appends_load, appends_store, goes, moves, passes, acquired, begins_copy, begins_fill, fetched, filled, broken, broadcast, sent, told, counts}
+use Rattle.dsm_protocol.specs.Stages.{Cause, Fault, Closing, Seeker, For_fault, For_release, For_closing, Stage, Mapped, Seeking, Missing, Wanting, Looking, Breaking, Marking, Saving, Ending, Broken, Broadcast, Parted, Testing, Claiming, Withdrawing, Entering, Entered, Ready, Fetching, Copying, Current, Making, Setting, Soiling, Giving, Drawing, Timed, Flushing, Stamping, Posting, Telling, Lowering, Untwining, Unlisting, Done, Judging, Unmapping, Emptied, Leaving, Over, Whole, Differs, Round, Idle, Waiting, Signalling, Admitted, Passing, Access, Collecting, Releasing, Cleaning, Draining, Hearing, Noticing, Flagging, Closes, Holder, Work, Off, On, Gone, registered, found, held_alone, departed, lowered}
+use Rattle.dsm_protocol.specs.Rows.{Step, loads, stores, sees_dir, seeks, settles, clears, registers, shares, wants, parts, looks, reads_map, marks, saves, saves_twin, saves_home, twins_broken, breaks, departs, sees_again, tests, claims, looks_again, withdraws, draws_enter, fills, fills_own, stamps_enter, enters, compares, judges, draws, sees_twin, copies, copies_over, merges, merges_own, merges_twin, stamps, has_twin, makes, makes_twin, made, sets, gives, sees_release, lasts, draws_send, tests_flush, flushes, flushes_same, flushes_twin, flushes_home, stamps_flush, reads_dir, posts, lowers, drops, untwins, unlists, finishes, sees_acquire, compares_own, judges_own, unmaps, empties, sees_bare, leaves, gives_over, draws_release, collects, drains, draws_notice, notices, flags, gives_notices, takes, seeks_holder, stops, Wins, faults, visits, returns, releases, hears, acquires, closes, Slip, accesses, waits, tells, finished, ends, forsaken, despairs, shared, unwanted, marked, claimed, at_home, read_only, flushed_all, unsent, posted, untold, unlowered, dropped, emptied, clean, released, unheard, heard, flagged, next_node, drained, taken, passed_over, closing, unclosing, unheld, closed, Noted, maps, soils, cleans, joins, appends_load, appends_store, signals, admits, arrives, dismisses, quits, goes, moves, passes, acquired, begins_copy, begins_fill, fetched, filled, broken, broadcast, sent, told, counts}
 use Rattle.dsm_protocol.specs.Standing.{IsObject, IsAside, Path, Stay, Decides, Notes, Does, Row as By_row, Won, Lost, Aside, Moves, starts_from}
 use Rattle.dsm_ties.specs.Clocks.{acquire_draws, most_draws, cause_draws, seeker_draws, stage_draws, notices_left, round_draws, behind_page, draws_left}
 
@@ -256,7 +256,8 @@ slip_draws u waits = omega arith
 slip_draws u tells = none _
 slip_draws u finished = none _
 slip_draws u ends = none _
-slip_draws u halts = none _
+slip_draws u forsaken = none _
+slip_draws u despairs = none _
 slip_draws u (shared {r = r} {h = h} {write = write} {row = row}) = on_page _ _ (behind_page u r) (either (row.busy == 0) (if write && not row.others then Testing h else Ready write h) (Wanting write h row.busy) 1 (either (write && not row.others) (Testing h) (Ready write h) 1 (same 1) (same 1)) (same 1))
 slip_draws u (unwanted {r = r} h) = on_page _ _ (behind_page u r) (same 1)
 slip_draws u (marked {r = r} {h = h} {j = j} {c = c}) = on_page _ _ (behind_page u r) (either (j == h) (Ending c j) (Saving c h j 0 Whole) (cause_draws c) (same _) (same _))
@@ -279,8 +280,8 @@ slip_draws u (next_node {j = j}) = next_heard u j (64 * groups u.lay)
 slip_draws u drained = none _
 slip_draws u taken = none _
 slip_draws u (passed_over h) = none _
-slip_draws u closing = none _
-slip_draws u unclosing = none _
+slip_draws u (closing h) = none _
+slip_draws u (unclosing h) = none _
 slip_draws u unheld = none _
 slip_draws u closed = none _
 
@@ -334,6 +335,11 @@ note_draws u o cleans = plainly _ _ _ _ (most_draws u) (same _) (same _)
 note_draws u o joins = plainly _ _ _ _ (most_draws u) (let h : u.lay.pages - 0 + acquire_draws u ≤ u.lay.pages + acquire_draws u = omega arith in h) (same _)
 note_draws u o (appends_load h) = plainly _ _ _ _ (most_draws u) (same 0) (same _)
 note_draws u o (appends_store h) = plainly _ _ _ _ (most_draws u) (same 0) (same _)
+note_draws u o (signals {of = of} {j = j} h other) = plainly _ _ _ _ (most_draws u) (same _) (note_done o (Append (Signal of j)))
+note_draws u o (admits {of = of} {c = c} h other) = plainly _ _ _ _ (most_draws u) (same _) (note_done o (Append (Pass of c)))
+note_draws u o (arrives h) = plainly _ _ _ _ (most_draws u) (none _) (same _)
+note_draws u o (dismisses h) = plainly _ _ _ _ (most_draws u) (same _) (same _)
+note_draws u o (quits h) = plainly _ _ _ _ (most_draws u) (same _) (same _)
 note_draws u o (gives h) = anew (done_of o) (most_draws u)
 note_draws u o (goes h) = anew (done_of o) (most_draws u)
 note_draws u o (moves h) = anew (done_of o) (most_draws u)
@@ -381,7 +387,7 @@ pub does_draws : (u : Who) {o : Own} {w : Work} {a : Act} {x : ℕ} {v : Work} �
 does_draws u (By_row w_in step) = step_draws u step
 does_draws u (Won turn w_in wins is) = let h = wins_draws u w_in wins in let t = turn_draws turn in (omega (arith, h, t.0), t.1)
 does_draws u (Lost turn w_in wins is) = let t = turn_draws turn in (omega (arith, t.0), t.1)
-does_draws u (Aside {a = a} aside) = let t = aside_draws u a aside in (omega (arith, t.0), t.1)
+does_draws u (Aside {a = a} may aside) = let t = aside_draws u a aside in (omega (arith, t.0), t.1)
 
 -- An event leads to a place with no more draws left than before, those that it takes added; but an instruction that it ends gives those of the next.
 pub moves_draws : (u : Who) {w v : Work} {o : Own} {a : Act} {x : ℕ} {m : Processor} → Moves u w o a x v m → Spends u w o (act_draws a) v m.own
@@ -424,6 +430,8 @@ notices_most u j g =
 round_most : (u : Who) (r : Round) → round_draws u r ≤ most_draws u
 round_most u Idle = same _
 round_most u Waiting = omega arith
+round_most u (Signalling t0) = omega arith
+round_most u Admitted = omega arith
 round_most u Passing = omega arith
 round_most u (Access true write a) = none _
 round_most u (Access false write a) = omega arith

@@ -1,10 +1,10 @@
--- What an event of a processor is to a page: decisions, an operation, then decisions and notes.
-use Rattle.std.proofs.Common.{◌≡◌, ◌≢◌, ◌⊎◌, inl, inr, ℕ, ◌+◌, ◌/◌, ◌<◌, ◌==◌, Bool, true, false, List, [], ◌++◌, length, Option, None, refl, sym, ap, ◌∙◌, subst, arith, if◌then◌else◌}
+-- What a row, a turn, a decision or a note on any page is to one page.
+use Rattle.std.proofs.Common.{◌≡◌, ◌≢◌, ◌⊎◌, inl, inr, ℕ, ◌+◌, ◌/◌, ◌<◌, ◌==◌, Bool, true, false, List, [], length, Option, None, refl, sym, ap, ◌∙◌, subst, arith, if◌then◌else◌}
 use Rattle.std.specs.Prelude.{slice_index, slice_index_or, ◌&&◌, not}
 use Rattle.std.proofs.lemmas.Bool.{cases_eq, eq-eqb, ne_eqb}
-use Rattle.dsm_words.specs.declared.item.Item.TheVariants.{Frame, Twin, Map, Clock}
+use Rattle.dsm_words.specs.declared.item.Item.TheVariants.{Frame, Twin, Map}
 use Rattle.dsm_words.specs.Place.{total}
-use Rattle.dsm_words.specs.Script.{Act, Get, Put, Swap, Change, Add, Or, item_of}
+use Rattle.dsm_words.specs.Script.{Act, Get, Put, Swap, Change, Add, Or}
 use Rattle.dsm_words.specs.Words.{word, done, told}
 use Rattle.dsm_clock.specs.declared.turns.TurnId.{TurnId}
 use Rattle.dsm_clock.specs.Turns.{turn_item}
@@ -12,20 +12,16 @@ use Rattle.dsm_protocol.specs.Own.{Own, Who, node_of}
 use Rattle.dsm_protocol.specs.Jobs.{Note, own_after}
 use Rattle.dsm_protocol.specs.Stages.{Stage, Mapped, Round, Work, Off, On, Gone, lowered}
 use Rattle.dsm_protocol.specs.Rows.{IsPlain, Step, Wins, Slip, Noted, sees_dir, hears, ends, shared, marked, claimed, unlowered, dropped, emptied, maps, counts}
-use Rattle.dsm_protocol.specs.Standing.{Path, Stay, Decides, Notes, Does, Row, Won, Lost, Aside, IsAside}
+use Rattle.dsm_protocol.specs.Standing.{Path, Stay, Decides, Notes, IsAside}
 use Rattle.dsm_protocol.proofs.Placed.{IsPlaced}
 use Rattle.dsm_runs.specs.Clusters.{answer}
 use Rattle.dsm_runs.proofs.Mappings.{IsSparing}
-use Rattle.dsm_owners.specs.Directory.{State, Event, after}
-use Rattle.dsm_owners.specs.Premises.{Runs}
+use Rattle.dsm_owners.specs.Directory.{State}
 use Rattle.dsm_owners.proofs.Keeps.{Holds}
-use Rattle.dsm_owners.proofs.Every.{goes_on}
 use Rattle.dsm_ties.specs.Events.{is_of, events_at, won_at, slipped_at}
-use Rattle.dsm_ties.specs.Tied.{Knows, Match}
+use Rattle.dsm_ties.specs.Tied.{Match}
 use Rattle.dsm_ties.proofs.Frame.{Answers, Acted, Meets, Now, RowActs, WinActs, SlipActs, NoteActs, done_get, untouched}
-use Rattle.dsm_ties.proofs.Elsewhere.{AllBy, aside_off, lost_same, plain_dirty, row_elsewhere, win_elsewhere, slip_elsewhere, note_elsewhere}
-use Rattle.dsm_ties.proofs.Doing.{by_events, by_won, by_slipped}
-use Rattle.dsm_ties.proofs.Tying.{after_append, runs_append, by_append}
+use Rattle.dsm_ties.proofs.Elsewhere.{aside_off, lost_same, plain_dirty, row_elsewhere, win_elsewhere, slip_elsewhere, note_elsewhere}
 
 -- it still has to know of a mapping that was stored
 abbrev owes : Work → Bool
@@ -112,36 +108,13 @@ module _ (u : Who) (at : IsPlaced u) (g : ℕ) (g_in : g < u.lay.pages) where
     pub note : (ws : List ℕ) (long : length ws ≡ total u.lay) (b : State) (m : Match u g ws b) (o : Own) {r : Round} {s : Stage} {i : Note} {v : Work} (noted : Noted u None (On r g s) i v) → NoteActs u at g g_in ws long b m o noted
     pub entry : (ws : List ℕ) (long : length ws ≡ total u.lay) (b : State) (m : Match u g ws b) (o : Own) {r : Round} {i : Note} {v : Work} (noted : Noted u None (Off r) i v) → NoteActs u at g g_in ws long b m o noted
 
-  -- where some events of its own lead
-  pub record Went (b : State) (o : Own) (w : Work) (ws : List ℕ) : Type 0 where
-    pub es : List Event
-    pub by : AllBy u.p es
-    pub runs : Runs u.lay.nodes node b es
-    pub match : Match u g ws (after node b es)
-    pub knows : Knows u g (after node b es).home ((after node b es).nodes (node_of u)) ((after node b es).processors u.p) w o
-
-  -- one behind the other
-  pub and_on : {b : State} {o p : Own} {w v : Work} {ws ws' : List ℕ} (h : Went b o w ws) → Went (after node b h.es) p v ws' → Went b p v ws'
-  and_on {b} {o} {p} {w} {v} {ws} {ws'} h k =
-      let same = sym (after_append u.lay.nodes node b h.es k.es) in
-      record {
-        es = h.es ++ k.es;
-        by = by_append u.p h.es k.es h.by k.by;
-        runs = runs_append u.lay.nodes node b h.es k.es h.runs k.runs;
-        match = subst (λ z. Match u g ws' z) same k.match;
-        knows = subst (λ z. Knows u g z.home (z.nodes (node_of u)) (z.processors u.p) v p) same k.knows;
-      }
-
   module _ (each : EachActs) (ws : List ℕ) (long : length ws ≡ total u.lay) where
     module _ (b : State) (m : Match u g ws b) (o : Own) where
       abbrev Is : Work → Own → Type 0
       Is w p = Now u at g g_in ws long b m w p
 
-      acted : {p : Own} {w : Work} {ws' : List ℕ} {es : List Event} → AllBy u.p es → Acted u at g g_in ws long b m p w ws' es → Went b p w ws'
-      acted {es = es} by h = record { es = es; by = by; runs = h.runs; match = h.match; knows = h.knows }
-
       -- a row, on whatever page
-      row_any : (w : Work) {a : Act} {x : ℕ} {v : Work} (step : Step u o.maps o.dirty w a x v) → Meets u at g g_in ws long b m o a x → Is w o → Acted u at g g_in ws long b m o v (done u.lay ws a) (events_at g u step)
+      pub row_any : (w : Work) {a : Act} {x : ℕ} {v : Work} (step : Step u o.maps o.dirty w a x v) → Meets u at g g_in ws long b m o a x → Is w o → Acted u at g g_in ws long b m o v (done u.lay ws a) (events_at g u step)
       row_any (On r h s) {a} {x} {v} step f k = go (cases_eq h g)
         where
           Shown : ℕ → Type 0
@@ -157,7 +130,7 @@ module _ (u : Who) (at : IsPlaced u) (g : ℕ) (g_in : g < u.lay.pages) where
       row_any Gone step f k = absurd (row_goes step refl)
 
       -- a turn that is won
-      win_any : {w : Work} {t : TurnId} (v : Work) (win : Wins u o.maps o.dirty w t v) → Meets u at g g_in ws long b m o (Change (turn_item t) 0 (u.p + 1)) 0 → Is w o → Acted u at g g_in ws long b m o v (done u.lay ws (Change (turn_item t) 0 (u.p + 1))) (won_at g u win)
+      pub win_any : {w : Work} {t : TurnId} (v : Work) (win : Wins u o.maps o.dirty w t v) → Meets u at g g_in ws long b m o (Change (turn_item t) 0 (u.p + 1)) 0 → Is w o → Acted u at g g_in ws long b m o v (done u.lay ws (Change (turn_item t) 0 (u.p + 1))) (won_at g u win)
       win_any {w} {t} (On r h s) win f k = go (cases_eq h g)
         where
           Shown : ℕ → Type 0
@@ -173,7 +146,7 @@ module _ (u : Who) (at : IsPlaced u) (g : ℕ) (g_in : g < u.lay.pages) where
       win_any Gone win f k = absurd (win_goes win refl)
 
       -- a decision
-      slip_any : (w : Work) {v : Work} (slip : Slip u o.maps o.dirty w v) → word u.lay ws (Map u.p g) ≡ slice_index o.maps g → Holds u.lay.nodes node b → Is w o → Acted u at g g_in ws long b m o v ws (slipped_at g u slip)
+      pub slip_any : (w : Work) {v : Work} (slip : Slip u o.maps o.dirty w v) → word u.lay ws (Map u.p g) ≡ slice_index o.maps g → Holds u.lay.nodes node b → Is w o → Acted u at g g_in ws long b m o v ws (slipped_at g u slip)
       slip_any (On r h s) {v} slip own all k = go (cases_eq h g)
         where
           Shown : ℕ → Type 0
@@ -187,6 +160,22 @@ module _ (u : Who) (at : IsPlaced u) (g : ℕ) (g_in : g < u.lay.pages) where
           go (inr ne) = rw (ne_eqb h g ne) (record { runs = tt; match = m; knows = slip_elsewhere u at g g_in ws long b m slip ne k })
       slip_any (Off r) slip own all k = rw (slip_here g slip) (each.pass ws long b m o slip own all k)
       slip_any Gone slip own all k = absurd (slip_goes slip refl)
+
+      -- a turn that is not won changes nothing
+      pub lost_any : {w : Work} (t : TurnId) → word u.lay ws (turn_item t) ≢ 0 → Is w o → Acted u at g g_in ws long b m o w (done u.lay ws (Change (turn_item t) 0 (u.p + 1))) []
+      lost_any t held k = record { runs = tt; match = subst (λ z. Match u g z b) (sym (lost_same u ws (turn_item t) (u.p + 1) held)) m; knows = k }
+
+      -- nor does an operation aside change a word of the page
+      aside_words : (a : Act) → IsAside a → IsSparing u a → Match u g (done u.lay ws a) b
+      aside_words (Get it) i z = subst (λ y. Match u g y b) (sym (done_get u ws it)) m
+      aside_words (Put it y) i z = untouched u at g g_in ws long b m (Put it y) z.0 (aside_off g (Put it y) i)
+      aside_words (Swap it y) i z = untouched u at g g_in ws long b m (Swap it y) z.0 (aside_off g (Swap it y) i)
+      aside_words (Change it y y') i z = untouched u at g g_in ws long b m (Change it y y') z.0 (aside_off g (Change it y y') i)
+      aside_words (Add it y) i z = untouched u at g g_in ws long b m (Add it y) z.0 (aside_off g (Add it y) i)
+      aside_words (Or it y) i z = untouched u at g g_in ws long b m (Or it y) z.0 (aside_off g (Or it y) i)
+
+      pub aside_any : {w : Work} (a : Act) → IsAside a → IsSparing u a → Is w o → Acted u at g g_in ws long b m o w (done u.lay ws a) []
+      aside_any a aside spares k = record { runs = tt; match = aside_words a aside spares; knows = k }
 
       -- a note
       pub note_any : (w : Work) {i : Note} {v : Work} (noted : Noted u None w i v) → Is w o → Is v (own_after o i)
@@ -203,31 +192,3 @@ module _ (u : Who) (at : IsPlaced u) (g : ℕ) (g_in : g < u.lay.pages) where
           go (inr ne) = note_elsewhere u at g g_in ws long b m noted ne k
       note_any (Off r) noted k = each.entry ws long b m o noted k
       note_any Gone (counts {n = i} p) k = record { at = k.at; round = tt; met = tt; dirty = λ c e. k.dirty refl (ap (λ z. slice_index_or z g false) (sym (plain_dirty i o p)) ∙ e); soils = tt; joins = tt; told = tt; heard = tt; homes = tt; times = tt }
-
-      -- the state and the words, and what is so of them, behind some events
-      holds_on : (es : List Event) → Holds u.lay.nodes node b → Runs u.lay.nodes node b es → Holds u.lay.nodes node (after node b es)
-      holds_on es all r = goes_on u.lay.nodes node b es all r
-
-    -- decisions and notes, one behind the other
-    pub path_went : {w v : Work} {o p : Own} (b : State) (m : Match u g ws b) → Path u w o v p → word u.lay ws (Map u.p g) ≡ slice_index p.maps g → Holds u.lay.nodes node b → Now u at g g_in ws long b m w o → Went b p v ws
-    path_went b m Stay own all k = record { es = []; by = tt; runs = tt; match = m; knows = k }
-    path_went {w} {v} {o} {p} b m (Decides slip path) own all k =
-        let h = acted b m o (by_slipped u g slip) (slip_any b m o w slip (own ∙ ap (λ z. slice_index z g) (slip_maps u slip path)) all k) in
-        and_on h (path_went (after node b h.es) h.match path own (holds_on b m o h.es all h.runs) h.knows)
-    path_went {w} {v} {o} {p} b m (Notes i noted path) own all k = path_went b m path own all (note_any b m o w noted k)
-
-    -- one operation
-    pub does_went : {w v : Work} {a : Act} {x : ℕ} (b : State) (m : Match u g ws b) (o : Own) (any : Option ℕ) → Does u o w a (answer any a x) v → x ≡ told a (word u.lay ws (item_of a)) → IsSparing u a → word u.lay ws (Map u.p g) ≡ slice_index o.maps g
-        → ((k : ℕ) → k < u.lay.nodes → word u.lay ws (Clock k) ≢ 0) → Holds u.lay.nodes node b → Now u at g g_in ws long b m w o → Went b o v (done u.lay ws a)
-    does_went {w} {v} {a} {x} b m o any (Row within step) told spares own clocks all k = acted b m o (by_events u g step) (row_any b m o w step (record { within = within; told = answers any a x _ told; own = own; clocks = clocks; holds = all }) k)
-    does_went {w} {v} b m o any (Won turn within win e) told spares own clocks all k = acted b m o (by_won u g win) (win_any b m o v win (record { within = within; told = sym e ∙ told; own = own; clocks = clocks; holds = all }) k)
-    does_went {w} b m o any (Lost turn within win ne) told spares own clocks all k = record { es = []; by = tt; runs = tt; match = subst (λ z. Match u g z b) (sym (lost_same u ws (turn_item turn) (u.p + 1) (λ e. ne (told ∙ e)))) m; knows = k }
-    does_went b m o any (Aside {a = a} aside) told spares own clocks all k = record { es = []; by = tt; runs = tt; match = aside_words a aside spares; knows = k }
-      where
-        aside_words : (a : Act) → IsAside a → IsSparing u a → Match u g (done u.lay ws a) b
-        aside_words (Get it) i z = subst (λ y. Match u g y b) (sym (done_get u ws it)) m
-        aside_words (Put it y) i z = untouched u at g g_in ws long b m (Put it y) z.0 (aside_off g (Put it y) i)
-        aside_words (Swap it y) i z = untouched u at g g_in ws long b m (Swap it y) z.0 (aside_off g (Swap it y) i)
-        aside_words (Change it y y') i z = untouched u at g g_in ws long b m (Change it y y') z.0 (aside_off g (Change it y y') i)
-        aside_words (Add it y) i z = untouched u at g g_in ws long b m (Add it y) z.0 (aside_off g (Add it y) i)
-        aside_words (Or it y) i z = untouched u at g g_in ws long b m (Or it y) z.0 (aside_off g (Or it y) i)

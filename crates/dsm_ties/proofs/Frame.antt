@@ -117,14 +117,6 @@ module _ (u : Who) (at : IsPlaced u) (g : ℕ) (g_in : g < u.lay.pages) (ws : Li
   pub won : (j : ℕ) → j < top → word u.lay ws (Turn j g) ≡ 0 → word u.lay (done u.lay ws (Change (Turn j g) 0 (u.p + 1))) (Turn j g) ≡ suc u.p
   won j j_in e = word_same u.lay ws (Change (Turn j g) 0 (u.p + 1)) long (j_in, g_in) ∙ (rw e p_suc)
 
-  -- a load leaves all as it is, and the processor at the next stage
-  pub read_at : (k : ℕ) (z : O.Stage) → Match u g ws (record { home = b.home; nodes = A.put b.nodes k (b.nodes k); processors = A.put b.processors u.p (record y { stage = z }) })
-  read_at k z = after_read u at g g_in ws long b m k (b.nodes k) (record y { stage = z }) (record { dir_is = λ _. refl; twined_is = λ _. refl; update_is = λ _. refl; turn_is = λ _. refl; map_is = λ _. refl; nle_is = refl; noted_is = refl })
-
-  pub read_knows : {r : Round} {s t : Stage} {o : Own} (k : ℕ) (z : O.Stage) → Now (On r g s) o → z ≡ stage_view u t → is_soiling t ≡ false → IfSome (home_in t) (λ h. b.home ≡ suc h) → IfSome (time_in t) (λ z. z ≢ 0) → IsMet t
-      → Knows u g b.home (A.put b.nodes k (b.nodes k) n) (A.put b.processors u.p (record y { stage = z }) u.p) (On r g t) o
-  read_knows {t = t} k z now e so ho ti me = knows_next u at g g_in ws long b m k (b.nodes k) (record y { stage = z }) {t = t} now e refl refl so ho ti me
-
   -- a bit more in the set of busy nodes
   pub busy_more : (c j : ℕ) → A.put (is_busy c) j true ≡ is_busy (bit_or c (2 ^ j))
   busy_more c j = λ i q. each q (cases_eq q j) i

@@ -11,26 +11,24 @@ use Rattle.dsm_clock.specs.declared.turns.TurnId.{TurnId}
 use Rattle.dsm_protocol.specs.Own.{Own, Who}
 use Rattle.dsm_protocol.specs.Jobs.{Note, Clean, own_after}
 use Rattle.dsm_protocol.specs.Stages.{Round, Collecting, Cleaning, Releasing, Stage, Work, Off, On}
-use Rattle.dsm_protocol.specs.Rows.{Step, Wins, Slip, Noted, sees_dir, seeks, settles, clears, registers, shares, wants, parts, looks, reads_map, marks, saves, saves_twin, saves_home, twins_broken, breaks, departs, sees_again, tests, claims, looks_again, withdraws, draws_enter, fills, fills_own, stamps_enter, enters, compares, judges, draws, sees_twin, copies, copies_over, merges, merges_own, merges_twin, stamps, has_twin, makes, makes_twin, made, sets, gives, sees_release, lasts, draws_send, tests_flush, flushes, flushes_same, flushes_twin, flushes_home, stamps_flush, reads_dir, posts, lowers, drops, untwins, unlists, finishes, sees_acquire, compares_own, judges_own, unmaps, empties, sees_bare, leaves, gives_over, loads, stores, draws_release, collects, drains, draws_notice, notices, flags, gives_notices, takes, seeks_holder, stops, faults, visits, returns, releases, acquires, closes, hears, shared, unwanted, marked, claimed, at_home, read_only, flushed_all, unsent, posted, untold, unlowered, dropped, emptied, accesses, waits, tells, finished, ends, halts, clean, released, unheard, heard, flagged, next_node, drained, taken, passed_over, closing, unclosing, unheld, closed, maps, soils, begins_copy, begins_fill, fetched, filled, broken, broadcast, sent, told, counts, cleans, joins, appends_load, appends_store, goes, moves, passes, acquired}
+use Rattle.dsm_protocol.specs.Rows.{Step, Wins, Slip, Noted, sees_dir, seeks, settles, clears, registers, shares, wants, parts, looks, reads_map, marks, saves, saves_twin, saves_home, twins_broken, breaks, departs, sees_again, tests, claims, looks_again, withdraws, draws_enter, fills, fills_own, stamps_enter, enters, compares, judges, draws, sees_twin, copies, copies_over, merges, merges_own, merges_twin, stamps, has_twin, makes, makes_twin, made, sets, gives, sees_release, lasts, draws_send, tests_flush, flushes, flushes_same, flushes_twin, flushes_home, stamps_flush, reads_dir, posts, lowers, drops, untwins, unlists, finishes, sees_acquire, compares_own, judges_own, unmaps, empties, sees_bare, leaves, gives_over, loads, stores, draws_release, collects, drains, draws_notice, notices, flags, gives_notices, takes, seeks_holder, stops, faults, visits, returns, releases, acquires, closes, hears, shared, unwanted, marked, claimed, at_home, read_only, flushed_all, unsent, posted, untold, unlowered, dropped, emptied, accesses, waits, tells, finished, ends, forsaken, despairs, clean, released, unheard, heard, flagged, next_node, drained, taken, passed_over, closing, unclosing, unheld, closed, maps, soils, begins_copy, begins_fill, fetched, filled, broken, broadcast, sent, told, counts, cleans, joins, appends_load, appends_store, signals, admits, arrives, dismisses, quits, goes, moves, passes, acquired}
 use Rattle.dsm_protocol.proofs.Placed.{IsPlaced}
 use Rattle.dsm_owners.specs.Acts.{Collect}
 use Rattle.dsm_owners.specs.Directory.{State, Do}
-use Rattle.dsm_ties.specs.Always.{AlwaysLoosely}
 use Rattle.dsm_ties.specs.Events.{events_at}
-use Rattle.dsm_ties.specs.Tied.{Match, Tied}
+use Rattle.dsm_ties.specs.Tied.{Match}
 use Rattle.dsm_ties.proofs.Frame.{Acted, Meets, Now, RowActs, WinActs, SlipActs, NoteActs}
 use Rattle.dsm_ties.proofs.Elsewhere.{cleans_elsewhere}
 use Rattle.dsm_ties.proofs.Following.{EachActs}
-use Rattle.dsm_ties.proofs.Reaching.{every_tied}
 use Rattle.dsm_ties.proofs.AcquireRows.{row_compares_own, row_empties, row_gives_over, row_judges_own, row_leaves, row_sees_acquire, row_sees_bare, row_unmaps, slip_emptied, win_acquires}
 use Rattle.dsm_ties.proofs.ClaimRows.{note_begins_fill, note_filled, row_claims, row_draws_enter, row_enters, row_fills, row_fills_own, row_looks_again, row_stamps_enter, row_tests, row_withdraws, slip_claimed}
 use Rattle.dsm_ties.proofs.DropRows.{note_cleans, note_counts, note_joins, row_drops, row_finishes, row_lowers, row_unlists, row_untwins, slip_dropped, slip_unlowered}
 use Rattle.dsm_ties.proofs.FaultRows.{row_clears, row_parts, row_registers, row_seeks, row_sees_dir, row_settles, row_shares, row_wants}
 use Rattle.dsm_ties.proofs.FaultSlips.{note_maps, slip_shared, slip_unwanted, win_faults}
 use Rattle.dsm_ties.proofs.FetchRows.{note_begins_copy, note_fetched, note_soils, row_compares, row_copies, row_copies_over, row_draws, row_gives, row_has_twin, row_judges, row_made, row_makes, row_makes_twin, row_merges, row_merges_own, row_merges_twin, row_sees_twin, row_sets, row_stamps, slip_at_home, slip_read_only}
-use Rattle.dsm_ties.proofs.OffEvents.{row_collects, row_stops, slip_ends, slip_halts}
+use Rattle.dsm_ties.proofs.OffEvents.{row_collects, row_stops, slip_ends, slip_forsaken}
 use Rattle.dsm_ties.proofs.OffRows.{row_collects_off, row_drains, row_draws_notice, row_draws_release, row_flags, row_gives_notices, row_loads, row_notices, row_seeks_holder, row_stores, row_takes}
-use Rattle.dsm_ties.proofs.OffSlips.{note_acquired, note_appends_load, note_appends_store, note_gives, note_goes, note_moves, note_passes, slip_accesses, slip_clean, slip_closed, slip_closing, slip_drained, slip_finished, slip_flagged, slip_heard, slip_next_node, slip_passed_over, slip_released, slip_taken, slip_tells, slip_unclosing, slip_unheard, slip_unheld, slip_waits, win_hears}
+use Rattle.dsm_ties.proofs.OffSlips.{note_acquired, note_appends_load, note_appends_store, note_gives, note_goes, note_moves, note_passes, note_signals, note_admits, note_arrives, note_dismisses, note_quits, slip_despairs, slip_accesses, slip_clean, slip_closed, slip_closing, slip_drained, slip_finished, slip_flagged, slip_heard, slip_next_node, slip_passed_over, slip_released, slip_taken, slip_tells, slip_unclosing, slip_unheard, slip_unheld, slip_waits, win_hears}
 use Rattle.dsm_ties.proofs.ReleaseRows.{note_sent, note_told, row_draws_send, row_flushes, row_flushes_home, row_flushes_same, row_flushes_twin, row_lasts, row_posts, row_reads_dir, row_sees_release, row_stamps_flush, row_tests_flush, slip_flushed_all, slip_posted, slip_unsent, slip_untold, win_releases}
 use Rattle.dsm_ties.proofs.VisitRows.{note_broadcast, note_broken, row_breaks, row_departs, row_looks, row_marks, row_reads_map, row_saves, row_saves_home, row_saves_twin, row_sees_again, row_twins_broken, slip_marked, win_closes, win_returns, win_visits}
 
@@ -156,7 +154,8 @@ passes_on u at g g_in ws long b m o waits = slip_waits u at g g_in ws long b m o
 passes_on u at g g_in ws long b m o tells = slip_tells u at g g_in ws long b m o
 passes_on u at g g_in ws long b m o finished = slip_finished u at g g_in ws long b m o
 passes_on u at g g_in ws long b m o ends = slip_ends u at g g_in ws long b m o
-passes_on u at g g_in ws long b m o halts = slip_halts u at g g_in ws long b m o
+passes_on u at g g_in ws long b m o forsaken = slip_forsaken u at g g_in ws long b m o
+passes_on u at g g_in ws long b m o despairs = slip_despairs u at g g_in ws long b m o
 passes_on u at g g_in ws long b m o (clean c) = slip_clean u at g g_in ws long b m o c
 passes_on u at g g_in ws long b m o released = slip_released u at g g_in ws long b m o
 passes_on u at g g_in ws long b m o (unheard c) = slip_unheard u at g g_in ws long b m o c
@@ -166,8 +165,8 @@ passes_on u at g g_in ws long b m o next_node = slip_next_node u at g g_in ws lo
 passes_on u at g g_in ws long b m o drained = slip_drained u at g g_in ws long b m o
 passes_on u at g g_in ws long b m o taken = slip_taken u at g g_in ws long b m o
 passes_on u at g g_in ws long b m o (passed_over c) = slip_passed_over u at g g_in ws long b m o c
-passes_on u at g g_in ws long b m o closing = slip_closing u at g g_in ws long b m o
-passes_on u at g g_in ws long b m o unclosing = slip_unclosing u at g g_in ws long b m o
+passes_on u at g g_in ws long b m o (closing c) = slip_closing u at g g_in ws long b m o c
+passes_on u at g g_in ws long b m o (unclosing c) = slip_unclosing u at g g_in ws long b m o c
 passes_on u at g g_in ws long b m o unheld = slip_unheld u at g g_in ws long b m o
 passes_on u at g g_in ws long b m o closed = slip_closed u at g g_in ws long b m o
 
@@ -196,10 +195,15 @@ entries u at g g_in ws long b m o (cleans {t0 = t0} {g = h}) = go (cases_eq h g)
 entries u at g g_in ws long b m o joins = note_joins u at g g_in ws long b m o
 entries u at g g_in ws long b m o (appends_load c) = note_appends_load u at g g_in ws long b m o c
 entries u at g g_in ws long b m o (appends_store c) = note_appends_store u at g g_in ws long b m o c
+entries u at g g_in ws long b m o (signals {of = of} {j = j} c other) = note_signals u at g g_in ws long b m o of j c other
+entries u at g g_in ws long b m o (admits {of = of} {c = k} c other) = note_admits u at g g_in ws long b m o of k c other
+entries u at g g_in ws long b m o (arrives {j = j} c) = note_arrives u at g g_in ws long b m o j c
+entries u at g g_in ws long b m o (dismisses {c = k} c) = note_dismisses u at g g_in ws long b m o k c
 entries u at g g_in ws long b m o (gives {d = d} {v = v} c) = note_gives u at g g_in ws long b m o d v c
 entries u at g g_in ws long b m o (goes {to = to} c) = note_goes u at g g_in ws long b m o to c
 entries u at g g_in ws long b m o (moves c) = note_moves u at g g_in ws long b m o c
 entries u at g g_in ws long b m o (passes c) = note_passes u at g g_in ws long b m o c
+entries u at g g_in ws long b m o (quits c) = note_quits u at g g_in ws long b m o c
 entries u at g g_in ws long b m o acquired = note_acquired u at g g_in ws long b m o
 entries u at g g_in ws long b m o (counts {n = i} c) = note_counts u at g g_in ws long b m o i c
 
@@ -216,6 +220,3 @@ each_acts u at g g_in =
       note = λ ws long b m o noted. notes u at g g_in ws long b m o noted;
       entry = λ ws long b m o noted. entries u at g g_in ws long b m o noted;
     }
-
-pub tied : AlwaysLoosely Tied
-tied = every_tied each_acts

@@ -8,13 +8,10 @@ use Rattle.dsm_words.specs.Pages.{group_of, has_page, pages_in}
 use Rattle.dsm_words.specs.Script.{Act, Swap, Change}
 use Rattle.dsm_words.specs.Words.{word, done}
 use Rattle.dsm_words.proofs.WordLaws.{word_same}
-use Rattle.dsm_clock.specs.declared.turns.TurnId.{TurnId}
 use Rattle.dsm_protocol.specs.Own.{Own, Who, node_of}
-use Rattle.dsm_protocol.specs.Jobs.{Job, is_ready}
-use Rattle.dsm_protocol.specs.Processors.{Processor}
-use Rattle.dsm_protocol.specs.Stages.{Visiting, Work, Off, On, Gone, turn_at}
-use Rattle.dsm_protocol.specs.Standing.{Works, Makes, Takes, Marks, Asks as Looks, Slips, Rests, Asides, Begins, Ends, Stands}
-use Rattle.dsm_protocol.specs.Rows.{Step, Wins, Slip, loads, faults, accesses, collects, stops, ends, halts}
+use Rattle.dsm_protocol.specs.Stages.{Visiting, Round, Waiting, Signalling, Arrived, Work, Off, On, Gone, turn_at}
+use Rattle.dsm_protocol.specs.Rows.{Step, Slip, collects, stops, ends, forsaken}
+use Rattle.dsm_protocol.specs.Standing.{IsOpen}
 use Rattle.dsm_protocol.proofs.Placed.{IsPlaced}
 use Rattle.dsm_owners.specs.Stages as O
 use Rattle.dsm_owners.specs.Acts as A
@@ -28,32 +25,12 @@ use Rattle.dsm_ties.specs.Tied.{bit, has_bit, Match}
 use Rattle.dsm_ties.proofs.Frame as F
 use Rattle.dsm_ties.proofs.OffRows.{in_set, no_bit, regrouped}
 
--- No operation, turn or decision comes where a page is still to be noted as clean: who stands before one has noted it.
-step_clean : {u : Who} {maps : List ℕ} {dirty : List Bool} {w : Work} {a : Act} {x : ℕ} {v : Work} (g : ℕ) → Step u maps dirty w a x v → is_cleaned w g ≡ false
-step_clean g (loads e) = refl
-step_clean g step = refl
-
-win_clean : {u : Who} {maps : List ℕ} {dirty : List Bool} {w : Work} {t : TurnId} {v : Work} (g : ℕ) → Wins u maps dirty w t v → is_cleaned w g ≡ false
-win_clean g (faults e) = refl
-win_clean g win = refl
-
-slip_clean : {u : Who} {maps : List ℕ} {dirty : List Bool} {w v : Work} (g : ℕ) → Slip u maps dirty w v → is_cleaned w g ≡ false
-slip_clean g accesses = refl
-slip_clean g slip = refl
-
-ready_clean : {u : Who} {w : Work} {o : Own} {j : Job} (g : ℕ) → Works u None w o j → is_ready j ≡ true → is_cleaned w g ≡ false
-ready_clean g (Makes within step rest) e = step_clean g (step 0)
-ready_clean g (Takes turn within win rest) e = win_clean g win
-ready_clean g (Marks noted rest) e = absurd (cc e)
-ready_clean g (Looks rest) e = absurd (cc e)
-ready_clean g (Slips slip rest) e = slip_clean g slip
-ready_clean g (Rests is resting) e = absurd (cc is)
-ready_clean g (Asides none aside rest) e = refl
-ready_clean g (Begins none) e = absurd (cc e)
-ready_clean g (Ends none) e = refl
-
-pub stands_clean : {u : Who} {w : Work} {m : Processor} (g : ℕ) → Stands u w m → is_cleaned w g ≡ false
-stands_clean g s = ready_clean g s.works s.ready
+-- work aside is at no page that is still to be noted as clean
+pub open_clean : (g : ℕ) (r : Round) → IsOpen r → is_cleaned (Off r) g ≡ false
+open_clean g Waiting may = refl
+open_clean g Arrived may = refl
+open_clean g (Signalling t0) may = refl
+open_clean g r may = absurd may
 
 both : (c d e : Bool) → (c ≡ true → d ≡ true) → c ≡ true → (d || e) ≡ true
 both c true e f i = refl
@@ -155,16 +132,16 @@ module _ (u : Who) (at : IsPlaced u) (g : ℕ) (g_in : g < u.lay.pages) (ws : Li
   pub slip_ends : Decision ends
   slip_ends own all k = gone A.Stop k refl k.at tt (F.read_match u at g g_in ws long b m A.Stop refl refl) refl refl
 
-  pub slip_halts : Decision halts
-  slip_halts own all k = gone A.Stop k refl k.at tt (F.read_match u at g g_in ws long b m A.Stop refl refl) refl refl
+  pub slip_forsaken : Decision forsaken
+  slip_forsaken own all k = gone A.Stop k refl k.at tt (F.read_match u at g g_in ws long b m A.Stop refl refl) refl refl
 
   -- a starved processor, which holds no turn, exchanges the stop word from where it stands, and ends
-  pub starved : (w : Work) {z : ℕ} → turn_at u w ≡ None → w ≢ Gone → is_cleaned w g ≡ false → Meets stopping z → Now w → Acted Gone (done u.lay ws stopping) (starved_events u g w)
-  starved (Off r) e ne clean f k = gone A.Stop k clean k.at tt (stopped A.Stop (F.read_match u at g g_in ws long b m A.Stop refl refl)) refl refl
-  starved (On r h (Visiting write home busy i)) e ne clean f k = go (h == g) k.at
+  pub starved : (w : Work) → turn_at u w ≡ None → w ≢ Gone → is_cleaned w g ≡ false → Now w → Acted Gone (done u.lay ws stopping) (starved_events u g w)
+  starved (Off r) e ne clean k = gone A.Stop k clean k.at tt (stopped A.Stop (F.read_match u at g g_in ws long b m A.Stop refl refl)) refl refl
+  starved (On r h (Visiting write home busy i)) e ne clean k = go (h == g) k.at
     where
       go : (c : Bool) → y.stage ≡ (if c then O.Visiting write i (is_busy busy) else O.Rest) → Acted Gone (done u.lay ws stopping) (if c then Do u.p (A.Stop_visit write i (is_busy busy)) ∷ [] else Do u.p A.Stop ∷ [])
       go true s = gone (A.Stop_visit write i (is_busy busy)) k clean s tt (stopped (A.Stop_visit write i (is_busy busy)) (F.read_match u at g g_in ws long b m (A.Stop_visit write i (is_busy busy)) refl refl)) refl refl
       go false s = gone A.Stop k clean s tt (stopped A.Stop (F.read_match u at g g_in ws long b m A.Stop refl refl)) refl refl
-  starved (On r h s) e ne clean f k = absurd (cc e)
-  starved Gone e ne clean f k = absurd (ne refl)
+  starved (On r h s) e ne clean k = absurd (cc e)
+  starved Gone e ne clean k = absurd (ne refl)

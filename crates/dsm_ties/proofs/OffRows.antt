@@ -15,7 +15,7 @@ use Rattle.dsm_words.specs.Words.{word, done, left_in}
 use Rattle.dsm_words.proofs.WordLaws.{word_same, word_other}
 use Rattle.dsm_words.proofs.PlaceLaws.{place_injective}
 use Rattle.dsm_protocol.specs.Own.{Own, Who, node_of}
-use Rattle.dsm_protocol.specs.Stages.{Round, Waiting, Collecting, Holder, Closes, Work, Off}
+use Rattle.dsm_protocol.specs.Stages.{Round, Collecting, Holder, Closes, Work, Off}
 use Rattle.dsm_protocol.specs.Standing.{IsObject, IsAside}
 use Rattle.dsm_protocol.specs.Rows.{Step, loads, stores, draws_release, drains, draws_notice, notices, flags, gives_notices, takes, seeks_holder, Allowed}
 use Rattle.dsm_protocol.proofs.Placed.{IsPlaced, group_in}
@@ -209,7 +209,3 @@ module _ (u : Who) (at : IsPlaced u) (g : ℕ) (g_in : g < u.lay.pages) (ws : Li
         go : (c : Bool) → Acted (Off (if c then Holder h j else Closes h (j + 1))) ws []
         go true = off_acts m k refl tt tt tt
         go false = off_acts m k refl tt tt tt
-
-    -- operations aside
-    pub row_aside : {a : Act} {x : ℕ} → IsAside a → Meets a x → Now (Off Waiting) o → Acted (Off Waiting) (done u.lay ws a) []
-    row_aside {a} e f k = off_acts (F.untouched u at g g_in ws long b m a f.within (aside_off g a e)) k refl tt tt tt

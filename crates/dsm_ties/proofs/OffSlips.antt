@@ -1,14 +1,15 @@
 -- Decisions and notes on no page, and the turn of a node's notices.
-use Rattle.std.proofs.Common.{◌≡◌, ℕ, ◌<◌, ◌==◌, Bool, false, List, length, None, refl, sym, ◌∙◌}
+use Rattle.std.proofs.Common.{◌≡◌, ℕ, ◌<◌, ◌==◌, Bool, true, false, List, length, None, refl, sym, ◌∙◌}
 use Rattle.std.specs.Prelude.{not, ◌&&◌, slice_index, slice_index_or}
 use Rattle.std.specs.Int.{bit_at}
+use Rattle.dsm_entry.specs.declared.entry.Obj.{Obj}
 use Rattle.dsm_words.specs.Place.{total}
 use Rattle.dsm_words.specs.Pages.{has_page}
 use Rattle.dsm_clock.specs.declared.turns.TurnId.{TurnId}
 use Rattle.dsm_protocol.specs.Own.{Own, Who, is_dirty}
 use Rattle.dsm_protocol.specs.Jobs.{Note, Map_own, Soil, Clean, Join, own_after}
 use Rattle.dsm_protocol.specs.Stages.{Work}
-use Rattle.dsm_protocol.specs.Rows.{Wins, Slip, Noted, IsPlain, hears, accesses, waits, tells, finished, clean, released, unheard, heard, flagged, next_node, drained, taken, passed_over, closing, unclosing, unheld, closed, appends_load, appends_store, gives, goes, moves, passes, acquired, counts}
+use Rattle.dsm_protocol.specs.Rows.{Wins, Slip, Noted, IsPlain, is_close, hears, accesses, waits, tells, finished, despairs, clean, released, unheard, heard, flagged, next_node, drained, taken, passed_over, closing, unclosing, unheld, closed, appends_load, appends_store, signals, admits, arrives, dismisses, quits, gives, goes, moves, passes, acquired, counts}
 use Rattle.dsm_protocol.proofs.Placed.{IsPlaced}
 use Rattle.dsm_owners.specs.Directory.{State}
 use Rattle.dsm_ties.specs.Tied.{Match}
@@ -53,6 +54,9 @@ module _ (u : Who) (at : IsPlaced u) (g : ℕ) (g_in : g < u.lay.pages) (ws : Li
   pub slip_finished : Decision finished
   slip_finished own all k = off_acts u at g g_in ws long b m m k refl tt tt tt
 
+  pub slip_despairs : Decision despairs
+  slip_despairs own all k = off_acts u at g g_in ws long b m m k refl tt tt tt
+
   -- a release
   pub slip_clean : {t0 h : ℕ} (e : slice_index_or o.dirty h false ≡ false) → Decision (clean {t0 = t0} {g = h} e)
   slip_clean e own all k = off_acts u at g g_in ws long b m m k refl tt tt tt
@@ -84,11 +88,11 @@ module _ (u : Who) (at : IsPlaced u) (g : ℕ) (g_in : g < u.lay.pages) (ws : Li
   slip_passed_over e own all k = off_acts u at g g_in ws long b m m k refl tt k.told tt
 
   -- the closing work
-  pub slip_closing : Decision closing
-  slip_closing own all k = off_acts u at g g_in ws long b m m k refl tt tt tt
+  pub slip_closing : (e : (u.p == 0) ≡ true) → Decision (closing e)
+  slip_closing e own all k = off_acts u at g g_in ws long b m m k refl tt tt tt
 
-  pub slip_unclosing : Decision unclosing
-  slip_unclosing own all k = off_acts u at g g_in ws long b m m k refl tt tt tt
+  pub slip_unclosing : (e : (u.p == 0) ≡ false) → Decision (unclosing e)
+  slip_unclosing e own all k = off_acts u at g g_in ws long b m m k refl tt tt tt
 
   pub slip_unheld : {h : ℕ} → Decision (unheld {g = h})
   slip_unheld own all k = off_acts u at g g_in ws long b m m k refl tt tt tt
@@ -106,6 +110,18 @@ module _ (u : Who) (at : IsPlaced u) (g : ℕ) (g_in : g < u.lay.pages) (ws : Li
   pub note_appends_store : {a v : ℕ} (e : None ≡ None) → Noting (appends_store {w = a} {v = v} e)
   note_appends_store e k = owned refl (off_knows u at g g_in ws long b m k refl tt tt tt)
 
+  pub note_signals : {t0 : ℕ} (of : Obj) (j : ℕ) (e : None ≡ None) (other : is_close of ≡ false) → Noting (signals {t0 = t0} {of = of} {j = j} e other)
+  note_signals of j e other k = owned refl (off_knows u at g g_in ws long b m k refl tt tt tt)
+
+  pub note_admits : (of : Obj) (c : ℕ) (e : None ≡ None) (other : is_close of ≡ false) → Noting (admits {of = of} {c = c} e other)
+  note_admits of c e other k = owned refl (off_knows u at g g_in ws long b m k refl tt tt tt)
+
+  pub note_arrives : {t0 : ℕ} (j : ℕ) (e : None ≡ None) → Noting (arrives {t0 = t0} {j = j} e)
+  note_arrives j e k = owned refl (off_knows u at g g_in ws long b m k refl tt tt tt)
+
+  pub note_dismisses : (c : ℕ) (e : None ≡ None) → Noting (dismisses {c = c} e)
+  note_dismisses c e k = owned refl (off_knows u at g g_in ws long b m k refl tt tt tt)
+
   pub note_gives : (d v : ℕ) (e : None ≡ None) → Noting (gives {d = d} {v = v} e)
   note_gives d v e k = owned refl (off_knows u at g g_in ws long b m k refl tt tt tt)
 
@@ -117,6 +133,9 @@ module _ (u : Who) (at : IsPlaced u) (g : ℕ) (g_in : g < u.lay.pages) (ws : Li
 
   pub note_passes : (e : None ≡ None) → Noting (passes e)
   note_passes e k = owned refl (off_knows u at g g_in ws long b m k refl tt tt tt)
+
+  pub note_quits : (e : None ≡ None) → Noting (quits e)
+  note_quits e k = owned refl (off_knows u at g g_in ws long b m k refl tt tt tt)
 
   pub note_acquired : {set : List ℕ} → Noting (acquired {set = set})
   note_acquired k = off_knows u at g g_in ws long b m k refl tt tt tt

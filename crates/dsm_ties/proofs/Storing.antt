@@ -13,7 +13,7 @@ use Rattle.dsm_clock.specs.declared.turns.TurnId.TheVariants.{Page, Notices}
 use Rattle.dsm_clock.specs.Turns.{turn_item}
 use Rattle.dsm_protocol.specs.Own.{Own, Who, node_of}
 use Rattle.dsm_protocol.specs.Jobs.{Note, Give, Go, Move, Append, Map_own, Soil, Clean, Join, Count, Happen, own_after}
-use Rattle.dsm_protocol.specs.Stages.{Stage, Mapped, Wanting, Breaking, Saving, Ending, Testing, Withdrawing, Entering, Entered, Ready, Filling, Copying, Flushing, Done, Untwining, Emptied, Over, Whole, Waiting, Work, Off, On, lowered}
+use Rattle.dsm_protocol.specs.Stages.{Stage, Mapped, Wanting, Breaking, Saving, Ending, Testing, Withdrawing, Entering, Entered, Ready, Filling, Copying, Flushing, Done, Untwining, Emptied, Over, Whole, Work, Off, On, lowered}
 use Rattle.dsm_protocol.specs.Rows.{Step, Slip, Noted, stores, saves_home, fills_own, copies_over, merges_own, flushes_home, shared, marked, claimed, unlowered, dropped, emptied, settles, maps as notes_map, begins_copy, begins_fill, counts}
 use Rattle.dsm_protocol.specs.Standing.{IsObject, IsAside, Path, Stay, Decides, Notes, Does, Row as By_row, Won, Lost, Aside, starts_from}
 use Rattle.dsm_runs.proofs.Mappings.{IsSparing, word_loaded}
@@ -84,7 +84,7 @@ pub does_fits : (u : Who) {o : Own} {w : Work} {a : Act} {x : ℕ} {v : Work} �
 does_fits u (By_row within step) = step_fits u step
 does_fits u {o} {w} (Won turn within wins is) = turn_fits o.maps w turn 0 (u.p + 1)
 does_fits u {o} {w} (Lost turn within wins is) = turn_fits o.maps w turn 0 (u.p + 1)
-does_fits u {o} (Aside {a = a} aside) = aside_fits o.maps (Off Waiting) a aside
+does_fits u {o} (Aside {r = r} {a = a} may aside) = aside_fits o.maps (Off r) a aside
 
 -- Decisions and notes come to no such stage but from one of the same page.
 either_none : (b : Bool) (s t : Stage) → is_homed s ≡ false → is_homed t ≡ false → is_homed (if b then s else t) ≡ false

@@ -86,4 +86,4 @@ pub does_ticks : (u : Who) (ws : List ℕ) (n : ℕ) → length ws ≡ total u.l
 does_ticks u ws n whole n_in (By_row {a = a} w_in step) = ticks u ws n whole n_in a w_in (step_draws u step).1
 does_ticks u ws n whole n_in (Won turn w_in wins is) = ticks u ws n whole n_in (Change (turn_item turn) 0 (u.p + 1)) w_in (turn_draws turn).1
 does_ticks u ws n whole n_in (Lost turn w_in wins is) = ticks u ws n whole n_in (Change (turn_item turn) 0 (u.p + 1)) w_in (turn_draws turn).1
-does_ticks u ws n whole n_in (Aside {a = a} aside) = inl (aside_stays u.lay ws n n_in a aside)
+does_ticks u ws n whole n_in (Aside {a = a} may aside) = inl (aside_stays u.lay ws n n_in a aside)

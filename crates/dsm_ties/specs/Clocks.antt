@@ -4,7 +4,7 @@ use Rattle.dsm_words.specs.declared.item.Item.TheVariants.{Clock}
 use Rattle.dsm_words.specs.Words.{word}
 use Rattle.dsm_protocol.specs.Own.{Who}
 use Rattle.dsm_protocol.specs.Processors.{Processor}
-use Rattle.dsm_protocol.specs.Stages.{Cause, Fault, Closing, Seeker, For_fault, For_release, For_closing, Stage, Mapped, Asked, Seeking, Missing, Clearing, Registering, Sharing, Wanting, Parting, Visiting, Looking, Breaking, Marking, Saving, Ending, Broken, Broadcast, Parted, Back, Testing, Claiming, Claimed, Withdrawing, Entering, Ready, Compared, Fetching, Released, Checking, Drawing, Round, Idle, Waiting, Passing, Access, Collecting, Releasing, Cleaning, Draining, Hearing, Noticing, Flagging, Work, Off, On, Gone}
+use Rattle.dsm_protocol.specs.Stages.{Cause, Fault, Closing, Seeker, For_fault, For_release, For_closing, Stage, Mapped, Asked, Seeking, Missing, Clearing, Registering, Sharing, Wanting, Parting, Visiting, Looking, Breaking, Marking, Saving, Ending, Broken, Broadcast, Parted, Back, Testing, Claiming, Claimed, Withdrawing, Entering, Ready, Compared, Fetching, Released, Checking, Drawing, Round, Idle, Waiting, Signalling, Admitted, Passing, Access, Collecting, Releasing, Cleaning, Draining, Hearing, Noticing, Flagging, Work, Off, On, Gone}
 use Rattle.dsm_runs.specs.Setups.{Setup, lay_in}
 use Rattle.dsm_runs.specs.Clusters.{Cluster}
 
@@ -66,6 +66,8 @@ notices_left u j g = (u.lay.nodes - j) * u.lay.pages - (if nat_lt g u.lay.pages 
 abbrev pub round_draws : Who → Round → ℕ
 round_draws u Idle = most_draws u
 round_draws u Waiting = acquire_draws u
+round_draws u (Signalling t0) = acquire_draws u
+round_draws u Admitted = acquire_draws u
 round_draws u Passing = acquire_draws u
 round_draws u (Access faulted write a) = if faulted then 0 else 1
 round_draws u (Collecting t0 k set) = u.lay.pages + acquire_draws u

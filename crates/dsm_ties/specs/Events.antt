@@ -7,7 +7,7 @@ use Rattle.dsm_directory.specs.declared.row.Row.{Row}
 use Rattle.dsm_directory.specs.Directory.{is_busy}
 use Rattle.dsm_protocol.specs.Own.{Who, node_of}
 use Rattle.dsm_protocol.specs.Stages.{Cause, Fault, Closing, Seeker, For_fault, Visiting, Collecting, Work, Off, On}
-use Rattle.dsm_protocol.specs.Rows.{Step, Wins, Slip, sees_dir, seeks, settles, clears, registers, shares, wants, parts, looks, marks, twins_broken, breaks, departs, sees_again, tests, claims, looks_again, withdraws, draws_enter, stamps_enter, enters, compares, judges, draws, stamps, has_twin, made, sets, gives, sees_release, lasts, tests_flush, stamps_flush, posts, lowers, drops, untwins, unlists, finishes, sees_acquire, judges_own, unmaps, empties, sees_bare, leaves, gives_over, collects, stops, faults, visits, returns, releases, hears, acquires, closes, shared, unwanted, marked, claimed, at_home, read_only, posted, unlowered, ends, halts}
+use Rattle.dsm_protocol.specs.Rows.{Step, Wins, Slip, sees_dir, seeks, settles, clears, registers, shares, wants, parts, looks, marks, twins_broken, breaks, departs, sees_again, tests, claims, looks_again, withdraws, draws_enter, stamps_enter, enters, compares, judges, draws, stamps, has_twin, made, sets, gives, sees_release, lasts, tests_flush, stamps_flush, posts, lowers, drops, untwins, unlists, finishes, sees_acquire, judges_own, unmaps, empties, sees_bare, leaves, gives_over, collects, stops, faults, visits, returns, releases, hears, acquires, closes, shared, unwanted, marked, claimed, at_home, read_only, posted, unlowered, ends, forsaken}
 use Rattle.dsm_owners.specs.Acts as A
 use Rattle.dsm_owners.specs.Directory.{Event, Do, Touch, Mark}
 use Rattle.dsm_ties.specs.Views.{why}
@@ -152,7 +152,7 @@ module _ (u : Who) where
     slip_events (posted {flushed = flushed}) = does (A.Posted flushed)
     slip_events (unlowered {flushed = flushed} e) = Do u.p (A.Lower_none flushed) ∷ lowered_events flushed
     slip_events ends = does A.Stop
-    slip_events halts = does A.Stop
+    slip_events forsaken = does A.Stop
     slip_events slip = []
 
   -- a processor that is starved in its visits of the page ends there

@@ -1,8 +1,10 @@
 -- Who may use a page, in the words of a state.
-use Rattle.std.specs.Prelude.{◌≡◌, ◌≢◌, ◌⊎◌, ℕ, suc, ◌*◌, ◌<◌, ◌≤◌, false}
+use Rattle.std.specs.Prelude.{◌≡◌, ◌≢◌, ◌⊎◌, ℕ, suc, ◌*◌, ◌<◌, ◌≤◌, false, Some, slice_get}
 use Rattle.dsm_words.specs.declared.item.Item.TheVariants.{Frame, Twined, Map, Dir, Home, Global, Own}
 use Rattle.dsm_words.specs.Pages.{group_of}
 use Rattle.dsm_words.specs.Words.{word}
+use Rattle.dsm_local.specs.declared.end.End.TheVariants.{Halted}
+use Rattle.dsm_protocol.specs.Processors.{Processor, ending}
 use Rattle.dsm_runs.specs.Setups.{Setup, lay_in, first_value}
 use Rattle.dsm_runs.specs.Clusters.{Cluster}
 use Rattle.dsm_ties.specs.Tied.{node_in, has_bit}
@@ -42,3 +44,7 @@ module _ (s : Setup) (c : Cluster) where
   abbrev pub HomelessUnwritten : Type 0
   HomelessUnwritten = (g n i : ℕ) → g < s.program.shape.pages → n < s.nodes → i < s.program.shape.words → word (lay_in s) c.words (Home g) ≡ 0
       → word (lay_in s) c.words (Frame n g i) ≡ first_value s (Frame n g i)
+
+  -- once all have halted, no node has a page alone
+  abbrev pub HaltedIsShared : Type 0
+  HaltedIsShared = ((p : ℕ) (m : Processor) → slice_get c.processors p ≡ Some m → ending m ≡ Some Halted) → (n g : ℕ) → n < s.nodes → g < s.program.shape.pages → word (lay_in s) c.words (Dir n g) ≢ 2

@@ -1,7 +1,7 @@
 // Laws over the definitions alone.
 ghost use Rattle.dsm_ties.specs.Always.{AlwaysLoosely};
 ghost use Rattle.dsm_ties.specs.Clocks.{ClockBound, ClocksStand};
-ghost use Rattle.dsm_ties.specs.Holders.{OneHolder, UnregisteredUnmapped, WritersTwinned, HomeBare, HomelessUntouched, HomelessUnwritten};
+ghost use Rattle.dsm_ties.specs.Holders.{OneHolder, UnregisteredUnmapped, WritersTwinned, HomeBare, HomelessUntouched, HomelessUnwritten, HaltedIsShared};
 ghost use Rattle.dsm_ties.specs.Places.{EachStands, EventsAreRows};
 ghost use Rattle.dsm_ties.specs.Tied.{Tied};
 
@@ -35,4 +35,6 @@ pub fn holders_law()
     // A page without a home is used by no node, and has the words with which it started.
     ensures untouched { AlwaysLoosely HomelessUntouched }
     ensures unwritten { AlwaysLoosely HomelessUnwritten }
+    // Once all processors have halted, no node has a page alone.
+    ensures halted_shared { AlwaysLoosely HaltedIsShared }
 {}

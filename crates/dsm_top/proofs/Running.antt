@@ -13,7 +13,8 @@ use Rattle.dsm_protocol.specs.declared.limits.Limits.{Limits}
 use Rattle.dsm_runs.specs.Setups.{Setup, IsSetup, lay_in}
 use Rattle.dsm_runs.specs.Clusters.{reached}
 use Rattle.dsm_runs.specs.Outcomes.{Ran}
-use Rattle.dsm_runs.specs.Promises.{EveryRunKeepsThem, OneNodeKeepsWords, AloneIsOrdered}
+use Rattle.dsm_runs.specs.Promises.{EveryRunKeepsThem, AloneIsOrdered}
+use Rattle.dsm_twoway.specs.Promise.{EveryRunKeepsWords}
 use Rattle.dsm_core.specs.States.{setup_of}
 use Rattle.dsm_sched.specs.declared.kind.Kind.{Kind}
 use Rattle.dsm_sched.specs.Schedules.{Simulated}
@@ -33,14 +34,14 @@ pages_many s kind steps ran cut h =
     ap (λ r. length r.pages) (sym h.outcome.leaves) ∙ length-map-range_with_len (λ w. word (lay_in s) (reached s h.events).words (master (lay_in s) (reached s h.events).words w)) 0 (s.program.shape.pages * s.program.shape.words)
 
 -- a simulated run is as promised
-pub runs_are : (t : Topology) (limits : Limits) (kind : Kind) (steps : ℕ) (p : ProgramText) (ran : Ran) (cut : Bool) → EveryRunKeepsThem → OneNodeKeepsWords → AloneIsOrdered → IsSetup (setup_of p t limits) → Simulated kind (setup_of p t limits) steps ran cut → Runs t limits kind steps p ran
+pub runs_are : (t : Topology) (limits : Limits) (kind : Kind) (steps : ℕ) (p : ProgramText) (ran : Ran) (cut : Bool) → EveryRunKeepsThem → EveryRunKeepsWords → AloneIsOrdered → IsSetup (setup_of p t limits) → Simulated kind (setup_of p t limits) steps ran cut → Runs t limits kind steps p ran
 runs_are t limits kind steps p ran cut runs words alone setup h =
     let s = setup_of p t limits in
     record {
       cut = cut;
       simulated = h;
       promises = runs s h.events ran setup h.outcome;
-      words = λ one. words s h.events ran setup one h.outcome;
+      words = words s h.events ran setup h.outcome;
       alone = λ single. alone s h.events ran single h.outcome;
     }
 

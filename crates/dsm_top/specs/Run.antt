@@ -6,7 +6,8 @@ use Rattle.dsm_protocol.specs.declared.limits.Limits.{Limits}
 use Rattle.dsm_flat.specs.Flat.{Ordered}
 use Rattle.dsm_runs.specs.Outcomes.{Ran}
 use Rattle.dsm_runs.specs.Setups.{IsSetup}
-use Rattle.dsm_runs.specs.Promises.{Promises, WordPromise}
+use Rattle.dsm_runs.specs.Promises.{Promises}
+use Rattle.dsm_twoway.specs.Promise.{WordPromise}
 use Rattle.dsm_core.specs.States.{setup_of}
 use Rattle.dsm_sched.specs.declared.kind.Kind.{Kind}
 use Rattle.dsm_sched.specs.declared.kind.Kind.TheVariants.{Round}
@@ -21,13 +22,13 @@ IsRunnable Listing p = Unit {0}
 IsRunnable (Sim t limits kind steps trace) p = IsSetup (setup_of p t limits)
 IsRunnable (Gen seed t limits steps) p = IsSetup (setup_of p t limits)
 
--- this is what a run of the program by the schedule left; it is as promised of every run, and on one node of each of its words; and where a
--- processor is alone, each word is ordered
+-- this is what a run of the program by the schedule left; it is as promised of every run, and so is each of its words; and where a processor is
+-- alone, each word is ordered
 pub record Runs (t : Topology) (limits : Limits) (kind : Kind) (steps : ℕ) (p : ProgramText) (ran : Ran) : Type 0 where
   pub cut : Bool
   pub simulated : Simulated kind (setup_of p t limits) steps ran cut
   pub promises : Promises (setup_of p t limits) ran
-  pub words : t.nodes ≡ 1 → (w : ℕ) → WordPromise (setup_of p t limits) ran w
+  pub words : (w : ℕ) → WordPromise (setup_of p t limits) ran w
   pub alone : t.nodes * t.procs ≡ 1 → (w : ℕ) → Ordered ran.traces w
 
 -- this is what the run that the plan asks for left; that of a generated program is in cyclic order

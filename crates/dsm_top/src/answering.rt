@@ -13,9 +13,9 @@ use dsm_protocol::limits::Limits;
 use dsm_report::reporting::text;
 use dsm_report::shape_text;
 use dsm_report::summing::summary;
-use dsm_runs::laws::{one_node_law, run_law};
 use dsm_sched::kind::Kind;
 use dsm_sched::simulation::sim;
+use dsm_twoway::laws::every_list;
 use dsm_words::topology::Topology;
 use std::alloc::Global;
 
@@ -70,8 +70,7 @@ fn run_and_report(
     requires { IsSetup (setup_of program.now t limits) }
     ensures { IfOk result (λ a. Answers (Plan.Sim t limits kind steps trace) program.now a.ran a.text.items) }
 {
-    run_law();
-    one_node_law();
+    every_list();
     let ran = sim(alloc, program, t, limits, kind, steps)?.ran;
     let text = text(alloc, t, program, &ran, trace)?;
     Ok(Answer {
@@ -92,8 +91,7 @@ fn run_and_sum_up(
     requires { IsSetup (setup_of program.now t limits) }
     ensures { IfOk result (λ a. Answers (Plan.Gen seed t limits steps) program.now a.ran a.text.items) }
 {
-    run_law();
-    one_node_law();
+    every_list();
     let ran = sim(alloc, program, t, limits, Kind::Round, steps)?.ran;
     let text = summary(alloc, seed, t, program, &ran)?;
     Ok(Answer {

@@ -4,10 +4,12 @@ use Rattle.dsm_runs.specs.Setups.{Setup}
 use Rattle.dsm_runs.specs.Clusters.{Cluster}
 use Rattle.dsm_ties.specs.Clocks.{ClockBound, ClocksStand}
 use Rattle.dsm_ties.specs.Holders.{OneHolder, UnregisteredUnmapped, WritersTwinned, HomeBare, HomelessUntouched, HomelessUnwritten}
+use Rattle.dsm_ties.proofs.Along.{tied}
 use Rattle.dsm_ties.proofs.Bounding.{clock_bound, clocks_stand}
 use Rattle.dsm_ties.proofs.Holders.{one_holder, unregistered, writers, home_bare, untouched}
-use Rattle.dsm_ties.proofs.Joining.{tied}
 use Rattle.dsm_ties.proofs.Unwritten.{unwritten}
+use Rattle.dsm_freshness.specs.Past.{FreshCopies}
+use Rattle.dsm_freshness.proofs.Remembering.{always_fresh}
 use Rattle.dsm_core.specs.States.{setup_of, cluster_in, Stepped}
 use Rattle.dsm_meta.specs.Facts.{SyncIsLegal, OwnMaps, TurnHolders, SomeGoesOn, SparesMappings, HomeFixed}
 use Rattle.dsm_meta.specs.Following.{Followed}
@@ -82,3 +84,6 @@ returns-clause-untouched c = holds_followed HomelessUntouched (untouched tied) c
 
 pub returns-clause-unwritten : goal.returns-clause-unwritten
 returns-clause-unwritten c = holds_followed HomelessUnwritten (unwritten tied) c.args.program.now c.args.t c.args.limits _ c.loop-p.state c.loop-p.invariant.setup c.loop-p.invariant.followed
+
+pub returns-clause-fresh : goal.returns-clause-fresh
+returns-clause-fresh c = holds_followed FreshCopies always_fresh c.args.program.now c.args.t c.args.limits _ c.loop-p.state c.loop-p.invariant.setup c.loop-p.invariant.followed

@@ -1,5 +1,6 @@
+use Rattle.dsm_ties.proofs.Along.{tied}
+use Rattle.dsm_ties.proofs.Closing.{halted_shared}
 use Rattle.dsm_ties.proofs.Holders.{one_holder, unregistered, writers, home_bare, untouched}
-use Rattle.dsm_ties.proofs.Joining.{tied}
 use Rattle.dsm_ties.proofs.Unwritten.{unwritten}
 use Rattle.dsm_ties.proofs.laws.holders_law.Goals as goal
 
@@ -12,4 +13,5 @@ returns c = record {
   home_bare = home_bare tied;
   untouched = untouched tied;
   unwritten = unwritten tied;
+  halted_shared = halted_shared;
 }

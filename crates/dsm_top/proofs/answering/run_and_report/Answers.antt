@@ -10,6 +10,6 @@ text-requires c =
 pub returns : goal.returns
 returns c =
     let left = c.in_ok-ran.field-0 in (
-      runs_are c.args.t c.args.limits c.args.kind c.args.steps c.args.program.now left.ran left.cut c.run_law.ensures.runs c.one_node_law.ensures.words c.one_node_law.ensures.alone c.requires c.in_ok-ran.ensures,
+      runs_are c.args.t c.args.limits c.args.kind c.args.steps c.args.program.now left.ran left.cut c.every_list.ensures.runs c.every_list.ensures.words c.every_list.ensures.alone c.requires c.in_ok-ran.ensures,
       c.in_ok-text.ensures,
     )

@@ -1,0 +1,16 @@
+pub mod AcquireRows
+pub mod Elsewhere
+pub mod FaultRows
+pub mod FetchRows
+pub mod Fitting
+pub mod Following
+pub mod Frame
+pub mod Joining
+pub mod Making
+pub mod Models
+pub mod PlainRows
+pub mod SendRows
+pub mod Trailing
+pub mod Tying
+pub mod VisitRows
+pub mod Words

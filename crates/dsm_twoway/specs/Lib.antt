@@ -1,0 +1,4 @@
+pub mod Events
+pub mod Promise
+pub mod Tied
+pub mod Views

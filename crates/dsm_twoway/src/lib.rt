@@ -1,0 +1,4 @@
+// The headline: the memory of every cluster is flat.
+#![tactic(auto)]
+
+pub mod laws;
