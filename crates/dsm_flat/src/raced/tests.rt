@@ -1,5 +1,6 @@
+ghost use Rattle.std.specs.Prelude.{◌<◌, ◌^◌, length};
+
 use crate::judge::judge;
-use crate::raced::raced;
 use crate::verdict::Verdict;
 use dsm_entry::entry::{Entry, NoMemory, Obj};
 use dsm_entry::trace::Trace;
@@ -31,21 +32,15 @@ fn pass(o: Obj, c: u64) -> Entry {
     Entry::Pass { o, c }
 }
 
-// Whether word 0 of these traces races, as both calls say, and no other of four words does.
-fn races(alloc: Global, traces: &[Trace]) -> Result<Option<bool>, NoMemory> {
-    let list = raced(alloc, traces, 4)?;
-    let alone = list.len() == 4 && !list[1] && !list[2] && !list[3];
-    let first = list.len() == 4 && list[0];
-    let judged = judge(alloc, traces, 0)? != Verdict::Ordered;
-    Ok(if alone && first == judged {
-        Some(first)
-    } else {
-        None
-    })
+// Whether word 0 of these traces races, as `judge` says, which asks the clocks first.
+fn races(alloc: Global, traces: &[Trace]) -> Result<bool, NoMemory>
+    requires { length traces.now < 2 ^ 32 }
+{
+    Ok(judge(alloc, traces, 0)? != Verdict::Ordered)
 }
 
 // Two processors.
-fn two(alloc: Global, first: &[Entry], second: &[Entry]) -> Result<Option<bool>, NoMemory> {
+fn two(alloc: Global, first: &[Entry], second: &[Entry]) -> Result<bool, NoMemory> {
     races(alloc, &[trace(alloc, first)?, trace(alloc, second)?])
 }
 
@@ -56,19 +51,19 @@ fn a_lock_orders_where_its_pass_counts_the_signal(rt: HostRuntime) -> Result<(),
     let first = [pass(l, 0), store(0), signal(l, 0), pass(l, 1), signal(l, 1)];
     let behind = [pass(l, 1), load(0), store(0)];
     let too_few = [pass(l, 0), load(0), load(2)];
-    assert_eq!(rt; two(alloc, &first, &behind)?, Some(false));
-    assert_eq!(rt; two(alloc, &first, &too_few)?, Some(true));
-    assert_eq!(rt; two(alloc, &behind, &first)?, Some(false));
+    assert_eq!(rt; two(alloc, &first, &behind)?, false);
+    assert_eq!(rt; two(alloc, &first, &too_few)?, true);
+    assert_eq!(rt; two(alloc, &behind, &first)?, false);
     Ok(())
 }
 
 #[test]
 fn loads_alone_do_not_race(rt: HostRuntime) -> Result<(), Fail> {
     let alloc = rt.alloc();
-    assert_eq!(rt; two(alloc, &[load(0)], &[load(0), load(0)])?, Some(false));
-    assert_eq!(rt; two(alloc, &[load(0)], &[load(0), store(0)])?, Some(true));
-    assert_eq!(rt; two(alloc, &[store(0)], &[])?, Some(false));
-    assert_eq!(rt; races(alloc, &[])?, Some(false));
+    assert_eq!(rt; two(alloc, &[load(0)], &[load(0), load(0)])?, false);
+    assert_eq!(rt; two(alloc, &[load(0)], &[load(0), store(0)])?, true);
+    assert_eq!(rt; two(alloc, &[store(0)], &[])?, false);
+    assert_eq!(rt; races(alloc, &[])?, false);
     Ok(())
 }
 
@@ -84,7 +79,7 @@ fn a_chain_of_three_objects_orders(rt: HostRuntime) -> Result<(), Fail> {
             trace(alloc, &[pass(l, 1), signal(b, 2)])?,
             trace(alloc, &[store(0), signal(l, 0)])?,
         ];
-        assert_eq!(rt; races(alloc, &traces)?, Some(c == 4));
+        assert_eq!(rt; races(alloc, &traces)?, c == 4);
     }
     Ok(())
 }
@@ -107,7 +102,7 @@ fn a_round_counts_its_last_arrival(rt: HostRuntime) -> Result<(), Fail> {
                 &[early, signal(b, 2), pass(b, 3), signal(b, 5), pass(b, 6)],
             )?,
         ];
-        assert_eq!(rt; races(alloc, &traces)?, Some(behind == 0));
+        assert_eq!(rt; races(alloc, &traces)?, behind == 0);
     }
     Ok(())
 }
@@ -122,7 +117,7 @@ fn only_the_third_pair_races(rt: HostRuntime) -> Result<(), Fail> {
         trace(alloc, &[pass(f, 1), store(0), store(1)])?,
         trace(alloc, &[pass(f, 2), load(0)])?,
     ];
-    assert_eq!(rt; races(alloc, &traces)?, Some(true));
+    assert_eq!(rt; races(alloc, &traces)?, true);
     Ok(())
 }
 
@@ -133,12 +128,12 @@ fn any_numbers_are_told_apart(rt: HostRuntime) -> Result<(), Fail> {
     let f = Obj::Flag(0);
     let top = 18_446_744_073_709_551_615;
     let twice = [signal(f, 9), store(0), signal(f, 9), signal(f, top)];
-    assert_eq!(rt; two(alloc, &twice, &[pass(f, 9), load(0)])?, Some(true));
-    assert_eq!(rt; two(alloc, &twice, &[pass(f, 10), load(0)])?, Some(false));
-    assert_eq!(rt; two(alloc, &twice, &[pass(f, top), load(0)])?, Some(false));
+    assert_eq!(rt; two(alloc, &twice, &[pass(f, 9), load(0)])?, true);
+    assert_eq!(rt; two(alloc, &twice, &[pass(f, 10), load(0)])?, false);
+    assert_eq!(rt; two(alloc, &twice, &[pass(f, top), load(0)])?, false);
     assert_eq!(rt;
         two(alloc, &[signal(f, top), store(0)], &[pass(f, top), load(0)])?,
-        Some(true)
+        true
     );
     Ok(())
 }
