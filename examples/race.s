@@ -5,7 +5,8 @@
 ; 0 on four, since a node that has its copy gets what others stored behind an acquire alone. With `kind=mixed seed=1` and other seeds
 ; the events come in other orders: `sim 1x4` then gives other first numbers, and `sim 4x1` still 0. Look at the second number: it is 50
 ; each time. That the neighbour on the page races does no harm to a word that is ordered.
-; With `lock 0` in front of the store behind `round:` and `unlock 0` behind the load of word 7, the first number is 0 on each cluster.
+; Look at the line `raced 7`: on each cluster the report names word 7, whose accesses have no order, and no other word. With `lock 0` in
+; front of the store behind `round:` and `unlock 0` behind the load of word 7, that line is gone, and the first number is 0.
 ; Of a load in a race little is promised: it gave the first value, or one that some store stored which the load is not before.
 .words 8
 .locks 1

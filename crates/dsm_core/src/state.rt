@@ -6,11 +6,13 @@ ghost use Rattle.dsm_machine.specs.Machines.{who};
 
 mod acting;
 mod leaving;
+pub mod parts;
 mod starting;
 #[cfg(test)]
 mod tests;
 
-use acting::{act, starves};
+use acting::act;
+pub use acting::starves;
 use dsm_isa::program::Program;
 use dsm_local::end::End;
 use dsm_machine::machine::Machine;

@@ -1,8 +1,8 @@
 -- What is kept beside each word, while entries are visited.
-use Rattle.std.proofs.Common.{◌≡◌, ◌≢◌, ℕ, zero, suc, ◌+◌, ◌-◌, ◌<◌, ◌≤◌, ◌⊎◌, List, [], ◌∷◌, Option, Some, None, true, false, length, refl, sym, ap, ◌∙◌, subst, inl, inr, arith, ◌^◌, MatchOption}
+use Rattle.std.proofs.Common.{◌≡◌, ◌≢◌, ℕ, zero, suc, ◌+◌, ◌-◌, ◌<◌, ◌≤◌, ◌⊎◌, List, [], ◌∷◌, Option, Some, None, true, false, length, get_or, refl, sym, ap, ◌∙◌, subst, inl, inr, arith, ◌^◌, MatchOption}
 use Rattle.std.specs.Prelude.{◌↔◌, map, slice_get, slice_index, slice_set}
 use Rattle.std.proofs.lemmas.Bool.{cases_eq, cases_lt}
-use Rattle.std.proofs.lemmas.Option.{slice_get_within, slice_get-map, same_Some}
+use Rattle.std.proofs.lemmas.Option.{slice_get_within, slice_get-map, slice_get_read, same_Some}
 use Rattle.dsm_entry.specs.declared.entry.Entry.{Entry}
 use Rattle.dsm_entry.specs.declared.entry.Entry.TheVariants.{Load, Store}
 use Rattle.dsm_entry.specs.declared.entry.Place.{Place}
@@ -207,6 +207,10 @@ short_place ts short old new v n = let w = within ts v.place v.entry n.can.there
 
 pub has_clock : (ts : Traces) (old new : Visits) (v : Visit) → AreVisits ts new → IsNextVisit ts old v new → v.place.p < length new.clocks.items
 has_clock ts old new v a n = omega (arith, has_trace ts v.place v.entry n.can.there, a.len)
+
+-- the clock that the code reads is the entry's
+pub visit_read : (ts : Traces) (old new : Visits) (v : Visit) → AreVisits ts new → IsNextVisit ts old v new → (clock : List ℕ) → clock ≡ get_or new.clocks.items v.place.p clock → IsVisit ts old.done v.place clock new.done
+visit_read ts old new v a n clock is = n.visit clock (slice_get_read new.clocks.items (length new.clocks.items) v.place.p clock refl (has_clock ts old new v a n) is)
 
 -- fewer entries are left
 pub fewer : (ts : Traces) (old new : Visits) (v : Visit) → IsNextVisit ts old v new → left_from ts 0 new.done < left_from ts 0 old.done

@@ -9,6 +9,9 @@ pub mod Lists
 pub mod Rows
 pub mod Searching
 pub mod Listing
+pub mod Finding
+pub mod Keeping
+pub mod Showing
 pub mod Clocks
 pub mod Counting
 pub mod Deciding

@@ -1,8 +1,8 @@
 -- The list of accesses, and the first pair of it that is not ordered.
 use Rattle.std.proofs.Common.{◌≡◌, ◌≢◌, ℕ, ◌+◌, ◌<◌, ◌≤◌, ◌⊎◌, Bool, true, false, List, [], ◌∷◌, ◌++◌, Some, None, length, get_or, refl, sym, ap, ◌∙◌, subst, inl, inr, arith, ◌==◌, if◌then◌else◌}
-use Rattle.std.specs.Prelude.{◌↔◌, slice_get}
+use Rattle.std.specs.Prelude.{◌↔◌, slice_get, IsTrue, MatchBool}
 use Rattle.std.proofs.lemmas.Bool.{cases_eq, cases_order, cases_Bool, eq-eqb, eqb-true}
-use Rattle.std.proofs.lemmas.Option.{slice_get_within, slice_get_cases, slice_get-get_or, slice_get_read, same_Some}
+use Rattle.std.proofs.lemmas.Option.{slice_get_within, slice_get_cases, slice_get-get_or, same_Some}
 use Rattle.dsm_entry.specs.declared.entry.Entry.{Entry}
 use Rattle.dsm_entry.specs.declared.entry.Entry.TheVariants.{Load, Store, Signal, Pass, Out}
 use Rattle.dsm_entry.specs.declared.entry.Place.{Place}
@@ -11,8 +11,7 @@ use Rattle.dsm_flat.specs.declared.verdict.Verdict.TheVariants as verdict
 use Rattle.dsm_flat.specs.Order.{Traces, Holds, Before}
 use Rattle.dsm_flat.specs.Flat.{IsStore, IsAccess, Conflict, Ordered}
 use Rattle.dsm_flat.specs.Judge.{IsBelow, Race, IsFirstRace}
-use Rattle.dsm_flat.specs.Rows.{Covers}
-use Rattle.dsm_flat.specs.Accesses.{kind_of, IsAccessTo, first_place, IsListed, AreAt, AreRows, AreWide, IsOrderedBy, AreItems, IsOrderedAt, IsRacyAt, IsOrderedUpTo}
+use Rattle.dsm_flat.specs.Accesses.{kind_of, IsAccessTo, first_place, IsListed, AreAt, IsBeforeAt, IsOrderedPair, IsOrderedAt, IsRacyAt, IsOrderedUpTo}
 use Rattle.dsm_flat.proofs.OrderLaws.{same_place, within}
 use Rattle.dsm_flat.proofs.Lists.{get_push, get_push_old, get_push_new}
 
@@ -184,6 +183,11 @@ item list k = get_or list k (record { place = record { p = 0; i = 0 }; stores = 
 pub item_at : (list : List Access) (k : ℕ) → k < length list → slice_get list k ≡ Some (item list k)
 item_at list k lt = slice_get-get_or list k (record { place = record { p = 0; i = 0 }; stores = false }) lt
 
+-- which access stands at an index is determined
+pub before_at : (ts : Traces) (list : List Access) (k m : ℕ) (x y : Access) → slice_get list k ≡ Some x → slice_get list m ≡ Some y → Before ts x.place y.place ↔ IsBeforeAt ts list k m
+before_at ts list k m x y at_x at_y =
+    (λ b u v at_u at_v. subst (λ z. Before ts u.place z.place) (same_Some y v (sym at_y ∙ at_v)) (subst (λ z. Before ts z.place y.place) (same_Some x u (sym at_x ∙ at_u)) b), λ b. b x y at_x at_y)
+
 -- an item of the list has one place
 placed_at : (list : List Access) (n : ℕ) (x : Place) (s : Bool) (c : Access) → slice_get list n ≡ Some (record { place = x; stores = s }) → slice_get list n ≡ Some c → x ≡ c.place
 placed_at list n x s c h h' =
@@ -192,24 +196,36 @@ placed_at list n x s c h h' =
     let q : d ≡ c = cc e in
     ap (λ z. z.place) q
 
--- what the rows say of two items, as the code reads them
-pub ordered_items : (list : List Access) (rows : List (List ℕ)) (k m : ℕ) (after_k after_m : List ℕ) → AreWide list rows → k < length list → m < length list → after_k ≡ get_or rows k after_k → after_m ≡ get_or rows m after_m
-    → IsOrderedBy (item list k) after_k (item list m) after_m → IsOrderedAt list rows k m
-ordered_items list rows k m after_k after_m h lk lm fk fm o x y r s i =
-    subst (λ z. IsOrderedBy z r y s) (same_Some _ _ (sym (item_at list k lk) ∙ i.at_x))
-    (subst (λ z. IsOrderedBy (item list k) z y s) (same_Some _ _ (sym (slice_get_read rows (length rows) k after_k refl (omega (arith, lk, h.len)) fk) ∙ i.row_x))
-    (subst (λ z. IsOrderedBy (item list k) after_k z s) (same_Some _ _ (sym (item_at list m lm) ∙ i.at_y))
-    (subst (λ z. IsOrderedBy (item list k) after_k (item list m) z) (same_Some _ _ (sym (slice_get_read rows (length rows) m after_m refl (omega (arith, lm, h.len)) fm) ∙ i.row_y)) o)))
-
-pub ordered_more : (list : List Access) (rows : List (List ℕ)) (k m : ℕ) → IsOrderedUpTo list rows k m → IsOrderedAt list rows k m → IsOrderedUpTo list rows k (m + 1)
-ordered_more list rows k m g o n lo hi = go (cases_eq m n)
+-- where one of two accesses stores and the first is not before the second, it is for the second whether it is before the first
+pub ordered_back : (ts : Traces) (list : List Access) (k m : ℕ) (b : Bool) → k < length list → m < length list → ((item list k).stores ≡ true) ⊎ ((item list m).stores ≡ true) → (IsBeforeAt ts list k m → ⊥) → IsTrue b ↔ IsBeforeAt ts list m k → MatchBool b (IsOrderedAt ts list k m) (IsRacyAt ts list k m)
+ordered_back ts list k m true lk lm stores no_k f = λ x y at_x at_y. inr (inr (f.0 refl y x at_y at_x))
+ordered_back ts list k m false lk lm stores no_k f = λ x y at_x at_y o. go x y at_x at_y o
   where
-    go : (m ≡ n) ⊎ (m ≡ n → ⊥) → IsOrderedAt list rows k n
-    go (inl e) = subst (λ z. IsOrderedAt list rows k z) e o
+    loads : (n : ℕ) (x : Access) → n < length list → slice_get list n ≡ Some x → x.stores ≡ false → (item list n).stores ≡ true → ⊥
+    loads n x lt at e t = absurd (let same : item list n ≡ x = same_Some (item list n) x (sym (item_at list n lt) ∙ at) in let s = ap (λ z. z.stores) same in cc (s, e, t))
+
+    none : (x y : Access) → slice_get list k ≡ Some x → slice_get list m ≡ Some y → (x.stores ≡ false) × (y.stores ≡ false) → ((item list k).stores ≡ true) ⊎ ((item list m).stores ≡ true) → ⊥
+    none x y at_x at_y n (inl t) = loads k x lk at_x n.0 t
+    none x y at_x at_y n (inr t) = loads m y lm at_y n.1 t
+
+    go : (x y : Access) → slice_get list k ≡ Some x → slice_get list m ≡ Some y → IsOrderedPair ts x y → ⊥
+    go x y at_x at_y (inl n) = none x y at_x at_y n stores
+    go x y at_x at_y (inr (inl b)) = no_k ((before_at ts list k m x y at_x at_y).0 b)
+    go x y at_x at_y (inr (inr b)) = absurd (let e = f.1 ((before_at ts list m k y x at_y at_x).0 b) in cc e)
+
+pub ordered_more : (ts : Traces) (list : List Access) (k m : ℕ) → IsOrderedUpTo ts list k m → IsOrderedAt ts list k m → IsOrderedUpTo ts list k (m + 1)
+ordered_more ts list k m g o n lo hi = go (cases_eq m n)
+  where
+    go : (m ≡ n) ⊎ (m ≡ n → ⊥) → IsOrderedAt ts list k n
+    go (inl e) = subst (λ z. IsOrderedAt ts list k z) e o
     go (inr d) = g n lo (omega (arith, hi, d))
 
 pub at_of : (ts : Traces) (w : ℕ) (bound : Place) (list : List Access) → IsListed ts w bound list → AreAt ts list
 at_of ts w bound list g k a at = (w, access_of ts w a (g.each k a at).1)
+
+pub apart : (x y : Place) → IsBelow x y → x ≢ y
+apart x y (inl lt) e = absurd (let f : x.p ≡ y.p = ap (λ z. z.p) e in omega (arith, lt, f))
+apart x y (inr h) e = absurd (let f : x.i ≡ y.i = ap (λ z. z.i) e in omega (arith, h.1, f))
 
 -- a word with all pairs ordered, and one with a first pair that is not
 module _ (ts : Traces) (w : ℕ) (list : List Access) (g : IsListed ts w (first_place (length ts)) list) where
@@ -236,149 +252,83 @@ module _ (ts : Traces) (w : ℕ) (list : List Access) (g : IsListed ts w (first_
       go (inl s) = absurd (let a = h.0 in let b = stores_of ts w (record { place = x; stores = lx.stores }) lx.is s in cc (a, b))
       go (inr s) = absurd (let a = h.1 in let b = stores_of ts w (record { place = y; stores = ly.stores }) ly.is s in cc (a, b))
 
-  apart : (x y : Place) → IsBelow x y → x ≢ y
-  apart x y (inl lt) e = absurd (let f : x.p ≡ y.p = ap (λ z. z.p) e in omega (arith, lt, f))
-  apart x y (inr h) e = absurd (let f : x.i ≡ y.i = ap (λ z. z.i) e in omega (arith, h.1, f))
+  pub all_ordered : ((k : ℕ) → k < length list → IsOrderedUpTo ts list k (length list)) → Ordered ts w
+  all_ordered pairs x y c = go (cases_order lx.k ly.k)
+    where
+      lx : Listed x
+      lx = listed x c.1
 
-  -- the accesses and what each of them is before
-  module _ (rows : List (List ℕ)) (r : AreRows ts list rows) where
-    items : (k m : ℕ) (a b : Access) → slice_get list k ≡ Some a → slice_get list m ≡ Some b → (after_a after_b : List ℕ) × AreItems list rows k m a after_a b after_b
-    items k m a b fa fb =
-        let x = slice_get_within list k a fa in
-        let y = slice_get_within list m b fb in
-        (get_or rows k [], get_or rows m [], record { at_x = fa; row_x = slice_get-get_or rows k [] (omega (arith, x, r.len)); at_y = fb; row_y = slice_get-get_or rows m [] (omega (arith, y, r.len)) })
+      ly : Listed y
+      ly = listed y c.2
 
-    -- what an access is before is what its row covers
-    covered : (k m : ℕ) (a b : Access) (row : List ℕ) → slice_get list k ≡ Some a → slice_get rows k ≡ Some row → slice_get list m ≡ Some b → Covers row b.place ↔ Before ts a.place b.place
-    covered k m a b row fa fr fb =
-        let h = (g.each m b fb).1 in
-        (r.each k a row fa fr).after b.place h.0 h.1
+      ordered : (a b : Place) (la : Listed a) (lb : Listed b) → Conflict ts w a b → la.k < lb.k → Before ts a b ⊎ Before ts b a
+      ordered a b la lb c lt =
+          pick (pairs la.k (slice_get_within list la.k _ la.at) lb.k lt (slice_get_within list lb.k _ lb.at) _ _ la.at lb.at)
+        where
+          pick : ((la.stores ≡ false) × (lb.stores ≡ false)) ⊎ (Before ts a b ⊎ Before ts b a) → Before ts a b ⊎ Before ts b a
+          pick (inl n) = absurd (not_both a b la lb c n)
+          pick (inr o) = o
 
-    ordered_pair : (k m : ℕ) (a b : Access) → slice_get list k ≡ Some a → slice_get list m ≡ Some b → IsOrderedAt list rows k m → ((a.stores ≡ false) × (b.stores ≡ false)) ⊎ (Before ts a.place b.place ⊎ Before ts b.place a.place)
-    ordered_pair k m a b fa fb o = go (o a b _ _ i)
-      where
-        i : AreItems list rows k m a (items k m a b fa fb).0 b (items k m a b fa fb).1
-        i = (items k m a b fa fb).2
+      swap : Before ts y x ⊎ Before ts x y → Before ts x y ⊎ Before ts y x
+      swap (inl b) = inr b
+      swap (inr b) = inl b
 
-        go : IsOrderedBy a (items k m a b fa fb).0 b (items k m a b fa fb).1 → ((a.stores ≡ false) × (b.stores ≡ false)) ⊎ (Before ts a.place b.place ⊎ Before ts b.place a.place)
-        go (inl n) = inl n
-        go (inr (inl c)) = inr (inl ((covered k m a b _ fa i.row_x fb).0 c))
-        go (inr (inr c)) = inr (inr ((covered m k b a _ fb i.row_y fa).0 c))
+      other : IsStore ts w x ⊎ IsStore ts w y → IsStore ts w y ⊎ IsStore ts w x
+      other (inl s) = inr s
+      other (inr s) = inl s
 
-    -- a pair that the rows don't order is not ordered, and one of it stores
-    pub record IsRacyPair (a b : Access) : Type 0 where
-      pub stores : (a.stores ≡ true) ⊎ (b.stores ≡ true)
-      pub not_before : Before ts a.place b.place → ⊥
-      pub not_after : Before ts b.place a.place → ⊥
+      go : (lx.k ≡ ly.k) ⊎ ((lx.k < ly.k) ⊎ (ly.k < lx.k)) → Before ts x y ⊎ Before ts y x
+      go (inl e) = absurd (c.0 (placed_at list ly.k x lx.stores (record { place = y; stores = ly.stores }) (ap (λ n. slice_get list n) (sym e) ∙ lx.at) ly.at))
+      go (inr (inl lt)) = ordered x y lx ly c lt
+      go (inr (inr lt)) = swap (ordered y x ly lx (λ e. c.0 (sym e), c.2, c.1, other c.3) lt)
 
-    racy_pair : (k m : ℕ) (a b : Access) → slice_get list k ≡ Some a → slice_get list m ≡ Some b → IsRacyAt list rows k m → IsRacyPair a b
-    racy_pair k m a b fa fb n =
-        record {
-          stores = stores (cases_Bool a.stores) (cases_Bool b.stores);
-          not_before = λ f. not (inr (inl ((covered k m a b _ fa i.row_x fb).1 f)));
-          not_after = λ f. not (inr (inr ((covered m k b a _ fb i.row_y fa).1 f)));
-        }
-      where
-        i : AreItems list rows k m a (items k m a b fa fb).0 b (items k m a b fa fb).1
-        i = (items k m a b fa fb).2
+  pub first_race : (k m : ℕ) (a b : Access) → ((n : ℕ) → n < k → IsOrderedUpTo ts list n (length list)) → IsOrderedUpTo ts list k m → IsRacyAt ts list k m → k < m → slice_get list k ≡ Some a → slice_get list m ≡ Some b → IsFirstRace ts w a.place b.place
+  first_race k m a b before upto racy_at lt fa fb =
+      record {
+        race = ((apart a.place b.place below, access_of ts w a (g.each k a fa).1, access_of ts w b (g.each m b fb).1, store (cases_Bool a.stores) (cases_Bool b.stores)), λ f. racy (inr (inl f)), λ f. racy (inr (inr f)));
+        below = below;
+        first = λ u v bel r. first u v bel r (listed u r.0.1) (listed v r.0.2);
+      }
+    where
+      racy : IsOrderedPair ts a b → ⊥
+      racy = racy_at a b fa fb
 
-        not : IsOrderedBy a (items k m a b fa fb).0 b (items k m a b fa fb).1 → ⊥
-        not o = n a b _ _ i o
+      below : IsBelow a.place b.place
+      below = g.sorted k m a b lt fa fb
 
-        stores : (a.stores ≡ true) ⊎ (a.stores ≡ false) → (b.stores ≡ true) ⊎ (b.stores ≡ false) → (a.stores ≡ true) ⊎ (b.stores ≡ true)
-        stores (inl s) t = inl s
-        stores (inr s) (inl t) = inr t
-        stores (inr s) (inr t) = absurd (not (inl (s, t)))
+      store : (a.stores ≡ true) ⊎ (a.stores ≡ false) → (b.stores ≡ true) ⊎ (b.stores ≡ false) → IsStore ts w a.place ⊎ IsStore ts w b.place
+      store (inl s) t = inl (store_of ts w a (g.each k a fa).1 s)
+      store (inr s) (inl t) = inr (store_of ts w b (g.each m b fb).1 t)
+      store (inr s) (inr t) = absurd (racy (inl (s, t)))
 
-    pub all_ordered : ((k : ℕ) → k < length list → IsOrderedUpTo list rows k (length list)) → Ordered ts w
-    all_ordered pairs x y c = go (cases_order lx.k ly.k)
-      where
-        lx : Listed x
-        lx = listed x c.1
+      -- accesses that race are not ordered
+      clash : (u v : Place) (lu : Listed u) (lv : Listed v) → Race ts w u v → IsOrderedAt ts list lu.k lv.k → ⊥
+      clash u v lu lv r o = go (o _ _ lu.at lv.at)
+        where
+          go : ((lu.stores ≡ false) × (lv.stores ≡ false)) ⊎ (Before ts u v ⊎ Before ts v u) → ⊥
+          go (inl n) = not_both u v lu lv r.0 n
+          go (inr (inl x)) = r.1 x
+          go (inr (inr x)) = r.2 x
 
-        ly : Listed y
-        ly = listed y c.2
+      first : (u v : Place) → IsBelow u v → Race ts w u v → Listed u → Listed v → IsBelow a.place u ⊎ ((a.place ≡ u) × (IsBelow b.place v ⊎ (b.place ≡ v)))
+      first u v bel r lu lv = one (cases_order lu.k lv.k)
+        where
+          -- u stands before v in the list
+          one : (lu.k ≡ lv.k) ⊎ ((lu.k < lv.k) ⊎ (lv.k < lu.k)) → IsBelow a.place u ⊎ ((a.place ≡ u) × (IsBelow b.place v ⊎ (b.place ≡ v)))
+          one (inl e) =
+              absurd (r.0.0 (placed_at list lv.k u lu.stores (record { place = v; stores = lv.stores }) (ap (λ n. slice_get list n) (sym e) ∙ lu.at) lv.at))
+          one (inr (inr gt)) = absurd (not_below u v bel (g.sorted lv.k lu.k _ _ gt lv.at lu.at))
+          one (inr (inl lt')) = two (cases_order lu.k k)
+            where
+              three : lu.k ≡ k → (lv.k ≡ m) ⊎ ((lv.k < m) ⊎ (m < lv.k)) → IsBelow b.place v ⊎ (b.place ≡ v)
+              three e (inl f) = inr (sym (placed_at list lv.k v lv.stores b lv.at (ap (λ n. slice_get list n) f ∙ fb)))
+              three e (inr (inl l)) = absurd (clash u v lu lv r (subst (λ z. IsOrderedAt ts list z lv.k) (sym e) (upto lv.k (omega (arith, e, lt')) l)))
+              three e (inr (inr l)) = inl (g.sorted m lv.k b _ l fb lv.at)
 
-        ordered : (a b : Place) (la : Listed a) (lb : Listed b) → Conflict ts w a b → la.k < lb.k → Before ts a b ⊎ Before ts b a
-        ordered a b la lb c lt =
-            pick (ordered_pair la.k lb.k _ _ la.at lb.at (pairs la.k (slice_get_within list la.k _ la.at) lb.k lt (slice_get_within list lb.k _ lb.at)))
-          where
-            pick : ((la.stores ≡ false) × (lb.stores ≡ false)) ⊎ (Before ts a b ⊎ Before ts b a) → Before ts a b ⊎ Before ts b a
-            pick (inl n) = absurd (not_both a b la lb c n)
-            pick (inr o) = o
-
-        swap : Before ts y x ⊎ Before ts x y → Before ts x y ⊎ Before ts y x
-        swap (inl b) = inr b
-        swap (inr b) = inl b
-
-        other : IsStore ts w x ⊎ IsStore ts w y → IsStore ts w y ⊎ IsStore ts w x
-        other (inl s) = inr s
-        other (inr s) = inl s
-
-        go : (lx.k ≡ ly.k) ⊎ ((lx.k < ly.k) ⊎ (ly.k < lx.k)) → Before ts x y ⊎ Before ts y x
-        go (inl e) = absurd (c.0 (placed_at list ly.k x lx.stores (record { place = y; stores = ly.stores }) (ap (λ n. slice_get list n) (sym e) ∙ lx.at) ly.at))
-        go (inr (inl lt)) = ordered x y lx ly c lt
-        go (inr (inr lt)) = swap (ordered y x ly lx (λ e. c.0 (sym e), c.2, c.1, other c.3) lt)
-
-    pub first_race : (k m : ℕ) (a b : Access) → ((n : ℕ) → n < k → IsOrderedUpTo list rows n (length list)) → IsOrderedUpTo list rows k m → IsRacyAt list rows k m → k < m → slice_get list k ≡ Some a → slice_get list m ≡ Some b → IsFirstRace ts w a.place b.place
-    first_race k m a b before upto racy_at lt fa fb =
-        record {
-          race = ((apart a.place b.place below, access_of ts w a (g.each k a fa).1, access_of ts w b (g.each m b fb).1, store racy.stores), racy.not_before, racy.not_after);
-          below = below;
-          first = λ u v bel r. first u v bel r (listed u r.0.1) (listed v r.0.2);
-        }
-      where
-        racy : IsRacyPair a b
-        racy = racy_pair k m a b fa fb racy_at
-
-        below : IsBelow a.place b.place
-        below = g.sorted k m a b lt fa fb
-
-        store : (a.stores ≡ true) ⊎ (b.stores ≡ true) → IsStore ts w a.place ⊎ IsStore ts w b.place
-        store (inl s) = inl (store_of ts w a (g.each k a fa).1 s)
-        store (inr s) = inr (store_of ts w b (g.each m b fb).1 s)
-
-        -- accesses that race are not ordered
-        clash : (u v : Place) (lu : Listed u) (lv : Listed v) → Race ts w u v → IsOrderedAt list rows lu.k lv.k → ⊥
-        clash u v lu lv r o = go (ordered_pair lu.k lv.k _ _ lu.at lv.at o)
-          where
-            go : ((lu.stores ≡ false) × (lv.stores ≡ false)) ⊎ (Before ts u v ⊎ Before ts v u) → ⊥
-            go (inl n) = not_both u v lu lv r.0 n
-            go (inr (inl x)) = r.1 x
-            go (inr (inr x)) = r.2 x
-
-        first : (u v : Place) → IsBelow u v → Race ts w u v → Listed u → Listed v → IsBelow a.place u ⊎ ((a.place ≡ u) × (IsBelow b.place v ⊎ (b.place ≡ v)))
-        first u v bel r lu lv = one (cases_order lu.k lv.k)
-          where
-            -- u stands before v in the list
-            one : (lu.k ≡ lv.k) ⊎ ((lu.k < lv.k) ⊎ (lv.k < lu.k)) → IsBelow a.place u ⊎ ((a.place ≡ u) × (IsBelow b.place v ⊎ (b.place ≡ v)))
-            one (inl e) =
-                absurd (r.0.0 (placed_at list lv.k u lu.stores (record { place = v; stores = lv.stores }) (ap (λ n. slice_get list n) (sym e) ∙ lu.at) lv.at))
-            one (inr (inr gt)) = absurd (not_below u v bel (g.sorted lv.k lu.k _ _ gt lv.at lu.at))
-            one (inr (inl lt')) = two (cases_order lu.k k)
-              where
-                three : lu.k ≡ k → (lv.k ≡ m) ⊎ ((lv.k < m) ⊎ (m < lv.k)) → IsBelow b.place v ⊎ (b.place ≡ v)
-                three e (inl f) = inr (sym (placed_at list lv.k v lv.stores b lv.at (ap (λ n. slice_get list n) f ∙ fb)))
-                three e (inr (inl l)) = absurd (clash u v lu lv r (subst (λ z. IsOrderedAt list rows z lv.k) (sym e) (upto lv.k (omega (arith, e, lt')) l)))
-                three e (inr (inr l)) = inl (g.sorted m lv.k b _ l fb lv.at)
-
-                two : (lu.k ≡ k) ⊎ ((lu.k < k) ⊎ (k < lu.k)) → IsBelow a.place u ⊎ ((a.place ≡ u) × (IsBelow b.place v ⊎ (b.place ≡ v)))
-                two (inl e) = inr (sym (placed_at list lu.k u lu.stores a lu.at (ap (λ n. slice_get list n) e ∙ fa)), three e (cases_order lv.k m))
-                two (inr (inl l)) = absurd (clash u v lu lv r (before lu.k l lv.k lt' (slice_get_within list lv.k _ lv.at)))
-                two (inr (inr l)) = inl (g.sorted k lu.k a _ l fa lu.at)
-
-    -- the list has all that a row is wanted for
-    pub wide : AreWide list rows
-    wide =
-        record {
-          len = r.len;
-          wide = λ k m a row fa fr.
-              let v = within ts a.place (g.each k a fa).1.0 (g.each k a fa).1.1 in
-              let l = slice_get_within ts a.place.p v.trace v.at in
-              let lt : m < length list = (let x = slice_get_within rows m row fr in let y = r.len in omega (arith, x, y)) in
-              let h = (r.each m (item list m) row (item_at list m lt) fr).len in
-              omega (arith, l, h);
-        }
+              two : (lu.k ≡ k) ⊎ ((lu.k < k) ⊎ (k < lu.k)) → IsBelow a.place u ⊎ ((a.place ≡ u) × (IsBelow b.place v ⊎ (b.place ≡ v)))
+              two (inl e) = inr (sym (placed_at list lu.k u lu.stores a lu.at (ap (λ n. slice_get list n) e ∙ fa)), three e (cases_order lv.k m))
+              two (inr (inl l)) = absurd (clash u v lu lv r (before lu.k l lv.k lt' (slice_get_within list lv.k _ lv.at)))
+              two (inr (inr l)) = inl (g.sorted k lu.k a _ l fa lu.at)
 
 -- an entry within a trace is there
 pub no_gap : (t : List Entry) (i : ℕ) → i < length t → slice_get t i ≡ None → ⊥

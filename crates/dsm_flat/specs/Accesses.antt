@@ -1,12 +1,15 @@
--- The list of the accesses to a word, and a row for each of them.
+-- The list of the accesses to a word, and which of them are before others.
 use Rattle.std.specs.Prelude.{◌≡◌, ℕ, ◌<◌, ◌⊎◌, Bool, true, false, ◌==◌, if◌then◌else◌, List, Option, Some, None, length, slice_get}
 use Rattle.dsm_entry.specs.declared.entry.Entry.{Entry}
 use Rattle.dsm_entry.specs.declared.entry.Entry.TheVariants.{Load, Store}
 use Rattle.dsm_entry.specs.declared.entry.Place.{Place}
 use Rattle.dsm_flat.specs.declared.accesses.Access.{Access}
-use Rattle.dsm_flat.specs.Order.{Traces, Holds}
+use Rattle.dsm_flat.specs.declared.shown.Shown.{Shown}
+use Rattle.dsm_flat.specs.declared.shown.Shown.TheVariants.{Rows, Clocks}
+use Rattle.dsm_flat.specs.Order.{Traces, Holds, Before}
 use Rattle.dsm_flat.specs.Judge.{IsBelow}
-use Rattle.dsm_flat.specs.Rows.{Covers, IsAt, IsReach}
+use Rattle.dsm_flat.specs.Clocks.{Counted, IsClock}
+use Rattle.dsm_flat.specs.Rows.{IsAt, IsReach}
 
 -- whether an entry stores to w, and None where it doesn't access w
 abbrev pub kind_of : ℕ → Entry → Option Bool
@@ -37,30 +40,42 @@ pub record AreRows (ts : Traces) (list : List Access) (rows : List (List ℕ)) :
   pub len : length rows ≡ length list
   pub each : (k : ℕ) (a : Access) (row : List ℕ) → slice_get list k ≡ Some a → slice_get rows k ≡ Some row → IsReach ts a.place row
 
--- there is a row for each access, and each row has an index for each processor of the list
-pub record AreWide (list : List Access) (rows : List (List ℕ)) : Type 0 where
-  pub len : length rows ≡ length list
-  pub wide : (k m : ℕ) (a : Access) (row : List ℕ) → slice_get list k ≡ Some a → slice_get rows m ≡ Some row → a.place.p < length row
+-- clock k is that of access k, where this is counted
+pub record AreKept (ts : Traces) (done : List ℕ) (list : List Access) (clocks : List (List ℕ)) : Type 0 where
+  pub len : length clocks ≡ length list
+  pub each : (k : ℕ) (a : Access) (clock : List ℕ) → slice_get list k ≡ Some a → slice_get clocks k ≡ Some clock → Counted done a.place → IsClock ts a.place clock
 
--- neither access stores, or the row of one covers the other
-abbrev pub IsOrderedBy : Access → List ℕ → Access → List ℕ → Type 0
-IsOrderedBy x after_x y after_y = ((x.stores ≡ false) × (y.stores ≡ false)) ⊎ (Covers after_x y.place ⊎ Covers after_y x.place)
+-- clock k is that of access k
+pub record AreClocks (ts : Traces) (list : List Access) (clocks : List (List ℕ)) : Type 0 where
+  pub len : length clocks ≡ length list
+  pub each : (k : ℕ) (a : Access) (clock : List ℕ) → slice_get list k ≡ Some a → slice_get clocks k ≡ Some clock → IsClock ts a.place clock
 
--- accesses k and m, each with its row
-pub record AreItems (list : List Access) (rows : List (List ℕ)) (k m : ℕ) (x : Access) (after_x : List ℕ) (y : Access) (after_y : List ℕ) : Type 0 where
-  pub at_x : slice_get list k ≡ Some x
-  pub row_x : slice_get rows k ≡ Some after_x
-  pub at_y : slice_get list m ≡ Some y
-  pub row_y : slice_get rows m ≡ Some after_y
+-- rows or clocks show which accesses are before others
+abbrev pub ShowsOrder : Traces → List Access → Shown → Type 0
+ShowsOrder ts list (Rows rows) = AreRows ts list rows.items
+ShowsOrder ts list (Clocks clocks) = AreClocks ts list clocks.items
 
--- accesses k and m need no order, or their rows show one
-abbrev pub IsOrderedAt : List Access → List (List ℕ) → ℕ → ℕ → Type 0
-IsOrderedAt list rows k m = (x y : Access) (r s : List ℕ) → AreItems list rows k m x r y s → IsOrderedBy x r y s
+-- the list has all accesses to w, and it is shown which of them are before others
+pub record IsShown (ts : Traces) (w : ℕ) (list : List Access) (shown : Shown) : Type 0 where
+  pub listed : IsListed ts w (first_place (length ts)) list
+  pub order : ShowsOrder ts list shown
 
--- accesses k and m need an order, and their rows show none
-abbrev pub IsRacyAt : List Access → List (List ℕ) → ℕ → ℕ → Type 0
-IsRacyAt list rows k m = (x y : Access) (r s : List ℕ) → AreItems list rows k m x r y s → IsOrderedBy x r y s → ⊥
+-- access k is before access m
+abbrev pub IsBeforeAt : Traces → List Access → ℕ → ℕ → Type 0
+IsBeforeAt ts list k m = (x y : Access) → slice_get list k ≡ Some x → slice_get list m ≡ Some y → Before ts x.place y.place
+
+-- neither access stores, or one is before the other
+abbrev pub IsOrderedPair : Traces → Access → Access → Type 0
+IsOrderedPair ts x y = ((x.stores ≡ false) × (y.stores ≡ false)) ⊎ (Before ts x.place y.place ⊎ Before ts y.place x.place)
+
+-- accesses k and m need no order, or have one
+abbrev pub IsOrderedAt : Traces → List Access → ℕ → ℕ → Type 0
+IsOrderedAt ts list k m = (x y : Access) → slice_get list k ≡ Some x → slice_get list m ≡ Some y → IsOrderedPair ts x y
+
+-- accesses k and m need an order, and have none
+abbrev pub IsRacyAt : Traces → List Access → ℕ → ℕ → Type 0
+IsRacyAt ts list k m = (x y : Access) → slice_get list k ≡ Some x → slice_get list m ≡ Some y → IsOrderedPair ts x y → ⊥
 
 -- access k is ordered with those behind it and before access m
-abbrev pub IsOrderedUpTo : List Access → List (List ℕ) → ℕ → ℕ → Type 0
-IsOrderedUpTo list rows k m = (n : ℕ) → k < n → n < m → IsOrderedAt list rows k n
+abbrev pub IsOrderedUpTo : Traces → List Access → ℕ → ℕ → Type 0
+IsOrderedUpTo ts list k m = (n : ℕ) → k < n → n < m → IsOrderedAt ts list k n

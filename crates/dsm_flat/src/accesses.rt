@@ -1,5 +1,8 @@
 // The accesses to a word.
-ghost use Rattle.std.specs.Prelude.{◌≡◌, ◌+◌, ◌<◌, ◌^◌, length, IfOk, OnOk};
+ghost use Rattle.std.specs.Prelude.{◌≡◌, ℕ, ◌+◌, ◌<◌, ◌^◌, Some, length, slice_get, IfOk, OnOk};
+ghost use Rattle.dsm_entry.specs.declared.entry.Place.{Place};
+ghost use Rattle.dsm_flat.specs.declared.accesses.Access.{Access};
+ghost use Rattle.dsm_flat.specs.Order.{Traces};
 ghost use Rattle.dsm_entry.specs.Told.{lists_of};
 ghost use Rattle.dsm_flat.specs.Accesses.{kind_of, IsListed, first_place};
 
@@ -14,8 +17,8 @@ pub struct Access {
     pub stores: bool,
 }
 
-// Whether an entry stores to w, and None where it doesn't access w.
-fn kind(e: Entry, w: u32) -> Option<bool>
+/// Whether an entry stores to w, and None where it doesn't access w.
+pub fn kind(e: Entry, w: u32) -> Option<bool>
     ensures { result ≡ kind_of w e }
 {
     match e {
@@ -54,4 +57,11 @@ pub fn accesses(alloc: Global, traces: &[Trace], w: u32) -> Result<Vec<Access>, 
         add_trace(traces, p, w, &mut list)?;
     }
     Ok(list)
+}
+
+/// Where the access at x stands in the list.
+pub fn index_of(list: &[Access], x: Place) -> usize
+    ensures { (ts : Traces) (w k : ℕ) (bound : Place) (a : Access) → IsListed ts w bound list.now → slice_get list.now k ≡ Some a → a.place ≡ x → result ≡ k }
+{
+    list.partition_point(|a| a.place < x)
 }

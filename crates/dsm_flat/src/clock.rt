@@ -31,6 +31,14 @@ impl Clock {
         }
     }
 
+    /// Another clock that counts the same.
+    pub fn copy(&self) -> Result<Clock, NoMemory>
+        ensures { IfOk result (λ c. c ≡ self.now) }
+    {
+        let counts = self.counts.clone()?;
+        Ok(Clock { counts })
+    }
+
     /// How many entries of processor `q` are counted.
     pub fn get(&self, q: usize) -> u32
         ensures { result ≡ slice_index self.now q }

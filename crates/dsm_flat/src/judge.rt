@@ -1,5 +1,5 @@
 // Whether the accesses to a word are ordered.
-ghost use Rattle.std.specs.Prelude.{◌≡◌, ℕ, ◌+◌, ◌<◌, ◌^◌, ◌↔◌, List, length, IfOk, OnOk, IsTrue, MatchOption};
+ghost use Rattle.std.specs.Prelude.{◌≡◌, ◌≢◌, ℕ, ◌+◌, ◌<◌, ◌^◌, ◌⊎◌, ◌↔◌, List, true, false, length, IfOk, OnOk, IfSome, IsTrue, MatchBool, MatchOption};
 ghost use Rattle.dsm_entry.specs.declared.entry.Place.{Place};
 ghost use Rattle.dsm_flat.specs.declared.verdict.Verdict.TheVariants.{Ordered as SaysOrdered, Raced as SaysRaced};
 ghost use Rattle.dsm_flat.specs.Order.{Traces, Holds};
@@ -9,14 +9,12 @@ ghost use Rattle.dsm_flat.specs.Following.{AreShort};
 ghost use Rattle.dsm_flat.specs.Latest.{IsLatest};
 ghost use Rattle.dsm_entry.specs.Told.{lists_of};
 ghost use Rattle.dsm_flat.specs.Judge.{IsFirstRace};
-ghost use Rattle.dsm_flat.specs.Accesses.{AreAt, AreRows, AreWide, IsOrderedBy, IsRacyAt, IsOrderedUpTo};
+ghost use Rattle.dsm_flat.specs.Accesses.{IsShown, IsOrderedAt, IsRacyAt, IsOrderedUpTo};
 
 use crate::accesses::{Access, accesses};
 use crate::clock::Clock;
 use crate::latest::Latest;
-use crate::links::links;
-use crate::reach::reach;
-use crate::row::Row;
+use crate::shown::{Shown, clocks, rows};
 use crate::verdict::Verdict;
 use crate::visits::{Visit, Visits, are_short};
 use dsm_entry::entry::{Entry, NoMemory};
@@ -26,40 +24,53 @@ use std::alloc::Global;
 #[cfg(test)]
 mod tests;
 
-// For each access of the list what it is before.
-fn rows(alloc: Global, traces: &[Trace], list: &[Access]) -> Result<Vec<Row>, NoMemory>
-    requires { AreAt (lists_of traces.now) list.now }
-    ensures { IfOk result (λ v. AreRows (lists_of traces.now) list.now v.items) }
+// Whether at least one of two accesses stores.
+fn conflict(x: Access, y: Access) -> bool
+    ensures { MatchBool result ((x.stores ≡ true) ⊎ (y.stores ≡ true)) ((x.stores ≡ false) × (y.stores ≡ false)) }
 {
-    let links = links(alloc, traces)?;
-    let mut rows = Vec::new(alloc);
-    for x in list {
-        rows.push(reach(alloc, traces, &links, x.place)?)?;
-    }
-    Ok(rows)
+    x.stores || y.stores
 }
 
-// Whether two accesses need no order or have one. The rows say what each is before.
-fn is_ordered(x: Access, after_x: &Row, y: Access, after_y: &Row) -> bool
-    requires x { x.place.p < length after_y.now }
-    requires y { y.place.p < length after_x.now }
-    ensures { IsTrue result ↔ IsOrderedBy x after_x.now y after_y.now }
+// Whether two accesses need no order or have one.
+fn is_ordered(list: &[Access], shown: &Shown, k: usize, m: usize) -> bool
+    requires k { k < length list.now }
+    requires m { m < length list.now }
+    requires other { k ≢ m }
+    requires shown { (ts : Traces) × (w : ℕ) × IsShown ts w list.now shown.now }
+    ensures { (ts : Traces) (w : ℕ) → IsShown ts w list.now shown.now → MatchBool result (IsOrderedAt ts list.now k m) (IsRacyAt ts list.now k m) }
 {
-    !x.stores && !y.stores || after_x.covers(y.place) || after_y.covers(x.place)
+    !conflict(list[k], list[m]) || shown.is_before(list, k, m) || shown.is_before(list, m, k)
 }
 
 // The first access behind the k-th that is not ordered with it.
-fn first_racy(list: &[Access], rows: &[Row], k: usize) -> Option<usize>
+fn first_racy(list: &[Access], shown: &Shown, k: usize) -> Option<usize>
     requires k { k < length list.now }
-    requires wide { AreWide list.now rows.now }
-    ensures { MatchOption result (IsOrderedUpTo list.now rows.now k (length list.now)) (λ m. (k < m) × (m < length list.now) × IsOrderedUpTo list.now rows.now k m × IsRacyAt list.now rows.now k m) }
+    requires shown { (ts : Traces) × (w : ℕ) × IsShown ts w list.now shown.now }
+    ensures { (ts : Traces) (w : ℕ) → IsShown ts w list.now shown.now → MatchOption result (IsOrderedUpTo ts list.now k (length list.now)) (λ m. (k < m) × (m < length list.now) × IsOrderedUpTo ts list.now k m × IsRacyAt ts list.now k m) }
 {
     for m in k + 1..list.len() {
-        if !is_ordered(list[k], &rows[k], list[m], &rows[m]) {
+        if !is_ordered(list, shown, k, m) {
             return Some(m);
         }
     }
     None
+}
+
+// The verdict on the word whose accesses are listed.
+fn first_race(list: &[Access], shown: &Shown) -> Verdict
+    requires { (ts : Traces) × (w : ℕ) × IsShown ts w list.now shown.now }
+    ensures ordered { (ts : Traces) (w : ℕ) → IsShown ts w list.now shown.now → (result ≡ SaysOrdered) ↔ Ordered ts w }
+    ensures raced { (ts : Traces) (w : ℕ) (x y : Place) → IsShown ts w list.now shown.now → (result ≡ SaysRaced x y) ↔ IsFirstRace ts w x y }
+{
+    for k in 0..list.len() {
+        if let Some(m) = first_racy(list, shown, k) {
+            return Verdict::Raced {
+                x: list[k].place,
+                y: list[m].place,
+            };
+        }
+    }
+    Verdict::Ordered
 }
 
 // The verdict by chains of edges, whatever the traces are.
@@ -70,15 +81,7 @@ fn by_chains(alloc: Global, traces: &[Trace], w: u32) -> Result<Verdict, NoMemor
 {
     let list = accesses(alloc, traces, w)?;
     let rows = rows(alloc, traces, &list)?;
-    for k in 0..list.len() {
-        if let Some(m) = first_racy(&list, &rows, k) {
-            return Ok(Verdict::Raced {
-                x: list[k].place,
-                y: list[m].place,
-            });
-        }
-    }
-    Ok(Verdict::Ordered)
+    Ok(first_race(&list, &Shown::Rows(rows)))
 }
 
 // An entry is visited, which may access word w. The clock is the entry's.
@@ -119,6 +122,23 @@ fn shows_order(alloc: Global, traces: &[Trace], w: u32) -> Result<bool, NoMemory
     Ok(visits.is_over(traces))
 }
 
+// The verdict by clocks, and None where the order has a circle.
+fn by_clocks(alloc: Global, traces: &[Trace], w: u32) -> Result<Option<Verdict>, NoMemory>
+    requires few { length traces.now < 2 ^ 32 }
+    requires short { AreShort (lists_of traces.now) }
+    ensures ordered { IfOk result (λ o. IfSome o (λ v. (v ≡ SaysOrdered) ↔ Ordered (lists_of traces.now) w)) }
+    ensures raced { IfOk result (λ o. IfSome o (λ v. (x y : Place) → (v ≡ SaysRaced x y) ↔ IsFirstRace (lists_of traces.now) w x y)) }
+{
+    if shows_order(alloc, traces, w)? {
+        return Ok(Some(Verdict::Ordered));
+    }
+    let list = accesses(alloc, traces, w)?;
+    match clocks(alloc, traces, w, &list)? {
+        Some(clocks) => Ok(Some(first_race(&list, &Shown::Clocks(clocks)))),
+        None => Ok(None),
+    }
+}
+
 /// Ordered exactly where every two conflicting places of `w` are, else the first pair that is not: the
 /// least x, then the least y above x, in the order of places.
 pub fn judge(alloc: Global, traces: &[Trace], w: u32) -> Result<Verdict, NoMemory>
@@ -127,8 +147,8 @@ pub fn judge(alloc: Global, traces: &[Trace], w: u32) -> Result<Verdict, NoMemor
     ensures raced { IfOk result (λ v. (x y : Place) → (v ≡ SaysRaced x y) ↔ IsFirstRace (lists_of traces.now) w x y) }
 {
     if are_short(traces) {
-        if shows_order(alloc, traces, w)? {
-            return Ok(Verdict::Ordered);
+        if let Some(verdict) = by_clocks(alloc, traces, w)? {
+            return Ok(verdict);
         }
     }
     by_chains(alloc, traces, w)

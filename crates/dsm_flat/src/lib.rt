@@ -14,5 +14,6 @@ mod passes;
 pub mod raced;
 mod reach;
 mod row;
+mod shown;
 pub mod verdict;
 mod visits;

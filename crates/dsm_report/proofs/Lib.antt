@@ -1,2 +1,3 @@
 pub mod PageLines
 pub mod Printed
+pub mod Silence

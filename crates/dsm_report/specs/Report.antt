@@ -1,11 +1,13 @@
 -- The report of a run, line by line.
-use Rattle.std.specs.Prelude.{ℕ, Bool, if◌then◌else◌, ◌+◌, ◌*◌, List, [], ◌∷◌, ◌++◌, Option, None, Some, map, flat_map, codes, decimal}
+use Rattle.std.specs.Prelude.{◌≡◌, ◌↔◌, ℕ, Bool, true, false, if◌then◌else◌, ◌+◌, ◌*◌, ◌<◌, List, [], ◌∷◌, ◌++◌, length, slice_get, Option, None, Some, map, flat_map, codes, decimal}
 use Rattle.std.specs.List.{range_with_len, slice_range}
 use Rattle.dsm_isa.specs.ProgramText.{Sizes}
 use Rattle.dsm_entry.specs.declared.entry.Entry.{Entry}
 use Rattle.dsm_entry.specs.declared.entry.Entry.TheVariants.{Load, Store, Signal, Pass, Out}
 use Rattle.dsm_entry.specs.declared.entry.Obj.{Obj}
 use Rattle.dsm_entry.specs.declared.entry.Obj.TheVariants.{Lock, Barrier, Flag, Close}
+use Rattle.dsm_flat.specs.Order.{Traces}
+use Rattle.dsm_flat.specs.Flat.{Ordered}
 use Rattle.dsm_local.specs.declared.end.End.{End}
 use Rattle.dsm_local.specs.declared.end.End.TheVariants.{Halted, Trapped, Spent, Looked, Stopped, NoMemory}
 use Rattle.dsm_local.specs.declared.end.Trap.{Trap}
@@ -57,6 +59,22 @@ page_line size words g = line (codes "page" ∷ decimal g ∷ map decimal (slice
 abbrev pub page_lines : Sizes → List ℕ → List ℕ
 page_lines shape words = flat_map (page_line shape.words words) (range_with_len 0 shape.pages)
 
+-- for each of so many words whether its conflicting accesses are not ordered
+pub record AreRaces (ts : Traces) (words : ℕ) (races : List Bool) : Type 0 where
+  pub len : length races ≡ words
+  pub ordered : (w : ℕ) → w < words → (slice_get races w ≡ Some false) ↔ Ordered ts w
+  pub raced : (w : ℕ) → w < words → (slice_get races w ≡ Some true) ↔ (Ordered ts w → ⊥)
+
+-- a line for word w, where it is not ordered
+abbrev pub race_line : ℕ → Bool → List ℕ
+race_line w true = line (codes "raced" ∷ decimal w ∷ [])
+race_line w false = []
+
+-- a line for each word that is not ordered, ascending, numbered from w on
+abbrev pub race_lines : ℕ → List Bool → List ℕ
+race_lines w [] = []
+race_lines w (race ∷ races) = race_line w race ++ race_lines (w + 1) races
+
 -- the counts in their order, each with its name
 abbrev pub named_counts : Counts → List (List ℕ × ℕ)
 named_counts k =
@@ -105,7 +123,11 @@ abbrev pub trace_lines : ℕ → List (List Entry) → List ℕ
 trace_lines p [] = []
 trace_lines p (t ∷ traces) = flat_map (trace_line p) t ++ trace_lines (p + 1) traces
 
--- the report: the cluster, the ends, what was printed, the pages with their words, and the counts; where it is asked for, also what
--- each processor did
-unfoldable pub report : Topology → Sizes → Ran → Bool → List ℕ
-report t shape ran trace = line (codes "cashmere" ∷ topology_word t ∷ []) ++ end_lines 0 ran.ends ++ out_lines 0 ran.traces ++ page_lines shape ran.pages ++ count_lines ran.counts ++ (if trace then trace_lines 0 ran.traces else [])
+-- the lines of the report: the cluster, the ends, what was printed, the pages with their words, the words that are not ordered, and the
+-- counts; where it is asked for, also what each processor did
+unfoldable pub report : Topology → Sizes → Ran → List Bool → Bool → List ℕ
+report t shape ran races trace = line (codes "cashmere" ∷ topology_word t ∷ []) ++ end_lines 0 ran.ends ++ out_lines 0 ran.traces ++ page_lines shape ran.pages ++ race_lines 0 races ++ count_lines ran.counts ++ (if trace then trace_lines 0 ran.traces else [])
+
+-- The report of a run: its lines, where those of words that are not ordered are as its traces say.
+abbrev pub IsReport : Topology → Sizes → Ran → Bool → List ℕ → Type 0
+IsReport t shape ran trace text = (races : List Bool) × AreRaces ran.traces (length ran.pages) races × (text ≡ report t shape ran races trace)

@@ -5,6 +5,7 @@ mod counts;
 mod ends;
 mod outs;
 mod pages;
+mod races;
 pub mod reporting;
 pub mod summing;
 #[cfg(test)]

@@ -1,6 +1,6 @@
-ghost use Rattle.std.specs.Prelude.{◌≡◌, length};
+ghost use Rattle.std.specs.Prelude.{◌≡◌, length, IfOk};
 
-use crate::reporting::text;
+use crate::reporting::{report_with, text};
 use dsm_core::ran::Ran;
 use dsm_entry::entry::{Entry, NoMemory, Obj};
 use dsm_entry::trace::Trace;
@@ -37,7 +37,9 @@ const COUNTED: &str =
     "count read_faults 1\ncount write_faults 2\ncount overwrites 3\ncount merges 4\ncount twins 5\ncount flushes 6\ncount early 7\ncount notices 8\ncount unmaps 9\ncount enters 10\ncount breaks 11\ncount unready 12\n";
 
 // What one processor did.
-fn trace_of(alloc: Global, entries: &[Entry]) -> Result<Trace, NoMemory> {
+fn trace_of(alloc: Global, entries: &[Entry]) -> Result<Trace, NoMemory>
+    ensures { IfOk result (λ t. t.list ≡ entries.now) }
+{
     let mut trace = Trace::new(alloc);
     for entry in entries {
         trace.reserve_one()?;
@@ -46,13 +48,14 @@ fn trace_of(alloc: Global, entries: &[Entry]) -> Result<Trace, NoMemory> {
     Ok(trace)
 }
 
-// The report of a run of one processor, whose memory is one page of `width` words.
+// The report of a run of one processor, whose memory is one page of `width` words, where it is told which words race.
 fn reported(
     alloc: Global,
     entries: &[Entry],
     end: End,
     width: u32,
     words: &[u64],
+    races: &[bool],
     trace: bool,
 ) -> Result<Vec<u8>, Fail>
     requires { length words.now ≡ width }
@@ -66,10 +69,11 @@ fn reported(
     };
     let code = Code::new(vec![in alloc; Instr::Halt]?)?;
     let program = Program::new(shape, Vec::new(alloc), code).ok_or("program")?;
-    Ok(text(alloc, Topology::new(1, 1)?, &program, &ran, trace)?)
+    let t = Topology::new(1, 1)?;
+    Ok(report_with(alloc, t, &program, &ran, races, trace)?)
 }
 
-// Only what was printed has lines, in order, and each word of the page is there.
+// Only what was printed has lines, in order; each word of the page is there; and only words that race have lines.
 #[test]
 fn reports_what_was_printed(rt: HostRuntime) -> Result<(), Fail> {
     let entries = [
@@ -77,8 +81,11 @@ fn reports_what_was_printed(rt: HostRuntime) -> Result<(), Fail> {
         Entry::Out { v: 7 },
         Entry::Out { v: u64::MAX },
     ];
-    let got = reported(rt.alloc(), &entries, End::Halted, 4, &[0, 0, 7, 0], false)?;
-    let want = "cashmere 1x1\nend 0 halted\nout 0 7\nout 0 18446744073709551615\npage 0 0 0 7 0\n";
+    let words = [0, 0, 7, 0];
+    let races = [true, false, false, true];
+    let got = reported(rt.alloc(), &entries, End::Halted, 4, &words, &races, false)?;
+    let want =
+        "cashmere 1x1\nend 0 halted\nout 0 7\nout 0 18446744073709551615\npage 0 0 0 7 0\nraced 0\nraced 3\n";
     assert!(rt; got.as_slice().strip_prefix(want.as_bytes()) == Some(COUNTED.as_bytes()));
     Ok(())
 }
@@ -100,7 +107,7 @@ fn reports_each_end(rt: HostRuntime) -> Result<(), Fail> {
         (End::NoMemory, "nomemory"),
     ];
     for (end, words) in table {
-        let got = reported(rt.alloc(), &[], end, 1, &[0], false)?;
+        let got = reported(rt.alloc(), &[], end, 1, &[0], &[false], false)?;
         let want = format!(in rt.alloc(); "cashmere 1x1\nend 0 {words}\npage 0 0\n{COUNTED}")?;
         assert_eq!(rt; got.as_slice(), want.as_bytes());
     }
@@ -135,9 +142,40 @@ fn reports_a_trace(rt: HostRuntime) -> Result<(), Fail> {
             c: 2,
         },
     ];
-    let got = reported(rt.alloc(), &entries, End::Halted, 1, &[0], true)?;
+    let got = reported(rt.alloc(), &entries, End::Halted, 1, &[0], &[true], true)?;
     let want = format!(in rt.alloc();
-        "cashmere 1x1\nend 0 halted\nout 0 8\npage 0 0\n{COUNTED}t 0 load 2 7\nt 0 store 3 18446744073709551615\nt 0 signal lock 63 4\nt 0 pass lock 0 5\nt 0 signal barrier 15 6\nt 0 pass flag 9 1\nt 0 out 8\nt 0 pass close 2\n"
+        "cashmere 1x1\nend 0 halted\nout 0 8\npage 0 0\nraced 0\n{COUNTED}t 0 load 2 7\nt 0 store 3 18446744073709551615\nt 0 signal lock 63 4\nt 0 pass lock 0 5\nt 0 signal barrier 15 6\nt 0 pass flag 9 1\nt 0 out 8\nt 0 pass close 2\n"
+    )?;
+    assert_eq!(rt; got.as_slice(), want.as_bytes());
+    Ok(())
+}
+
+// Both processors use word 1, and one of them stores to it; word 2 is only loaded, and each other word is of one processor alone.
+#[test]
+fn names_the_word_that_races(rt: HostRuntime) -> Result<(), Fail> {
+    let alloc = rt.alloc();
+    let shape = Shape::new(1, 4, 0, 0, 0).ok_or("shape")?;
+    let first = [
+        Entry::Store { w: 0, v: 5 },
+        Entry::Load { w: 1, v: 0 },
+        Entry::Load { w: 2, v: 0 },
+    ];
+    let second = [
+        Entry::Load { w: 2, v: 0 },
+        Entry::Store { w: 1, v: 6 },
+        Entry::Store { w: 3, v: 7 },
+    ];
+    let ran = Ran {
+        traces: vec![in alloc; trace_of(alloc, &first)?, trace_of(alloc, &second)?]?,
+        ends: vec![in alloc; Some(End::Spent), Some(End::Spent)]?,
+        pages: vec![in alloc; 5, 6, 0, 7]?,
+        counts: one_to_twelve(),
+    };
+    let code = Code::new(vec![in alloc; Instr::Halt]?)?;
+    let program = Program::new(shape, Vec::new(alloc), code).ok_or("program")?;
+    let got = text(alloc, Topology::new(1, 2)?, &program, &ran, false)?;
+    let want = format!(in alloc;
+        "cashmere 1x2\nend 0 spent\nend 1 spent\npage 0 5 6 0 7\nraced 1\n{COUNTED}"
     )?;
     assert_eq!(rt; got.as_slice(), want.as_bytes());
     Ok(())

@@ -1,7 +1,9 @@
+pub mod Concluding
+pub mod Fronts
 pub mod OnePlan
 pub mod Running
 pub mod SettingWords
 pub mod Settings
 pub mod Spelling
-pub mod Words
 pub mod Taking
+pub mod Words

@@ -1,5 +1,5 @@
 -- The words of a command line ask for one plan at most.
-use Rattle.std.proofs.Common.{◌≡◌, ◌≢◌, ℕ, suc, ◌<◌, ◌≤◌, ◌*◌, ◌^◌, Bool, List, [], ◌∷◌, ◌++◌, length, get_or, append_assoc, codes, decimal, map, All, refl, sym, ap, ◌∙◌, arith}
+use Rattle.std.proofs.Common.{◌≡◌, ◌≢◌, ◌↔◌, ℕ, suc, ◌<◌, ◌≤◌, ◌*◌, ◌^◌, Bool, IsTrue, if◌then◌else◌, List, [], ◌∷◌, ◌++◌, length, get_or, append_assoc, codes, decimal, map, All, refl, sym, ap, ◌∙◌, subst, arith}
 use Rattle.std.proofs.lemmas.Fmt.{decimal_injective}
 use Rattle.std.proofs.lemmas.List.Elements.{All-head, All-tail}
 use mathlib.Core.HLevel.{is_prop→PathP}
@@ -8,12 +8,13 @@ use Rattle.dsm_words.specs.declared.topology.Topology.{Topology}
 use Rattle.dsm_protocol.specs.declared.limits.Limits.{Limits}
 use Rattle.dsm_sched.specs.declared.kind.Kind.{Kind}
 use Rattle.dsm_top.specs.declared.plans.KindWord.TheVariants.{Round, Mixed}
-use Rattle.dsm_top.specs.declared.plans.Plan.TheVariants.{Check, List as Listing, Sim, Gen}
+use Rattle.dsm_top.specs.declared.plans.Plan.{Plan}
+use Rattle.dsm_top.specs.declared.plans.Plan.TheVariants.{Check, List as Listing, Sim, Run, Gen}
 use Rattle.dsm_top.specs.declared.plans.Setting.{Setting}
-use Rattle.dsm_top.specs.declared.plans.Setting.TheVariants.{Kind as OfKind, Seed, Turns, Looks, Steps, Trace}
-use Rattle.dsm_top.specs.Plans.{topology_word, seed_word, word_of, IsInRange, AskForSim, AskForGen, AskForOnePlan}
+use Rattle.dsm_top.specs.declared.plans.Setting.TheVariants.{Kind as OfKind, Seed, Turns, Looks, Steps, Trace, Threads}
+use Rattle.dsm_top.specs.Plans.{topology_word, seed_word, word_of, IsInRange, limits_in, endless_in, steps_in, AskForSim, AskForRun, AskForGen, AskForOnePlan, PlanOf, runs_by_threads}
 use Rattle.dsm_top.proofs.Spelling.{no_x, one_behind}
-use Rattle.dsm_top.proofs.Words.{sim_is_not_gen, simulation_of, generation_of}
+use Rattle.dsm_top.proofs.Words.{first-PlanOf, simulation_of, threaded_of, generation_of}
 
 -- a cluster is given by its two numbers
 same_topology : (s t : Topology) → s.nodes ≡ t.nodes → s.procs ≡ t.procs → s ≡ t
@@ -60,6 +61,7 @@ second_byte (Turns n) = 117
 second_byte (Looks n) = 111
 second_byte (Steps n) = 116
 second_byte Trace = 114
+second_byte Threads = 104
 
 second-word : (s : Setting) → get_or (word_of s) 1 0 ≡ second_byte s
 second-word (OfKind kind) = refl
@@ -68,6 +70,7 @@ second-word (Turns n) = refl
 second-word (Looks n) = refl
 second-word (Steps n) = refl
 second-word Trace = refl
+second-word Threads = refl
 
 same_second : (a b : Setting) → word_of a ≡ word_of b → second_byte a ≡ second_byte b
 same_second a b same = sym (second-word a) ∙ ap (λ w. get_or w 1 0) same ∙ second-word b
@@ -87,36 +90,8 @@ word-injective (Turns m) (Turns n) within inside same = ap Turns (same_number (c
 word-injective (Looks m) (Looks n) within inside same = ap Looks (same_number (codes "looks" ++ codes "=") m n (omega (arith, within)) (omega (arith, inside)) same)
 word-injective (Steps m) (Steps n) within inside same = ap Steps (same_number (codes "steps" ++ codes "=") m n (omega (arith, within)) (omega (arith, inside)) same)
 word-injective Trace Trace within inside same = refl
-word-injective (OfKind k) (Turns n) within inside same = absurd (omega (arith, same_second (OfKind k) (Turns n) same))
-word-injective (OfKind k) (Looks n) within inside same = absurd (omega (arith, same_second (OfKind k) (Looks n) same))
-word-injective (OfKind k) (Steps n) within inside same = absurd (omega (arith, same_second (OfKind k) (Steps n) same))
-word-injective (OfKind k) Trace within inside same = absurd (omega (arith, same_second (OfKind k) Trace same))
-word-injective (OfKind k) (Seed n) within inside same = absurd (omega (arith, same_second (OfKind k) (Seed n) same))
-word-injective (Seed m) (OfKind j) within inside same = absurd (omega (arith, same_second (Seed m) (OfKind j) same))
-word-injective (Seed m) (Turns n) within inside same = absurd (omega (arith, same_second (Seed m) (Turns n) same))
-word-injective (Seed m) (Looks n) within inside same = absurd (omega (arith, same_second (Seed m) (Looks n) same))
-word-injective (Seed m) (Steps n) within inside same = absurd (omega (arith, same_second (Seed m) (Steps n) same))
-word-injective (Seed m) Trace within inside same = absurd (omega (arith, same_second (Seed m) Trace same))
-word-injective (Turns m) (OfKind j) within inside same = absurd (omega (arith, same_second (Turns m) (OfKind j) same))
-word-injective (Turns m) (Looks n) within inside same = absurd (omega (arith, same_second (Turns m) (Looks n) same))
-word-injective (Turns m) (Steps n) within inside same = absurd (omega (arith, same_second (Turns m) (Steps n) same))
-word-injective (Turns m) Trace within inside same = absurd (omega (arith, same_second (Turns m) Trace same))
-word-injective (Turns m) (Seed n) within inside same = absurd (omega (arith, same_second (Turns m) (Seed n) same))
-word-injective (Looks m) (OfKind j) within inside same = absurd (omega (arith, same_second (Looks m) (OfKind j) same))
-word-injective (Looks m) (Turns n) within inside same = absurd (omega (arith, same_second (Looks m) (Turns n) same))
-word-injective (Looks m) (Steps n) within inside same = absurd (omega (arith, same_second (Looks m) (Steps n) same))
-word-injective (Looks m) Trace within inside same = absurd (omega (arith, same_second (Looks m) Trace same))
-word-injective (Looks m) (Seed n) within inside same = absurd (omega (arith, same_second (Looks m) (Seed n) same))
-word-injective (Steps m) (OfKind j) within inside same = absurd (omega (arith, same_second (Steps m) (OfKind j) same))
-word-injective (Steps m) (Turns n) within inside same = absurd (omega (arith, same_second (Steps m) (Turns n) same))
-word-injective (Steps m) (Looks n) within inside same = absurd (omega (arith, same_second (Steps m) (Looks n) same))
-word-injective (Steps m) Trace within inside same = absurd (omega (arith, same_second (Steps m) Trace same))
-word-injective (Steps m) (Seed n) within inside same = absurd (omega (arith, same_second (Steps m) (Seed n) same))
-word-injective Trace (OfKind j) within inside same = absurd (omega (arith, same_second Trace (OfKind j) same))
-word-injective Trace (Seed n) within inside same = absurd (omega (arith, same_second Trace (Seed n) same))
-word-injective Trace (Turns n) within inside same = absurd (omega (arith, same_second Trace (Turns n) same))
-word-injective Trace (Looks n) within inside same = absurd (omega (arith, same_second Trace (Looks n) same))
-word-injective Trace (Steps n) within inside same = absurd (omega (arith, same_second Trace (Steps n) same))
+word-injective Threads Threads within inside same = refl
+word-injective a b within inside same = absurd (omega (arith, same_second a b same))
 
 words-injective : (xs ys : List Setting) → All IsInRange xs → All IsInRange ys → map word_of xs ≡ map word_of ys → xs ≡ ys
 words-injective [] [] within inside same = refl
@@ -133,37 +108,20 @@ words-injective (x ∷ xs) (y ∷ ys) within inside same =
 simulation : (words : List (List ℕ)) (t : Topology) (limits : Limits) (kind : Kind) (steps : ℕ) (trace : Bool) (h : AskForSim words t limits kind steps trace) → Sim t limits kind steps trace ≡ simulation_of t h.settings
 simulation words t limits kind steps trace h = let a = h.given_limits in let b = h.given_kind in let c = h.given_steps in let d = h.given_trace in cc
 
--- and a plan to generate is that of its seed, its topology and its settings
-generation : (words : List (List ℕ)) (seed : ℕ) (t : Topology) (limits : Limits) (steps : ℕ) (h : AskForGen words seed t limits steps) → Gen seed t limits steps ≡ generation_of seed t h.settings
-generation words seed t limits steps h = let a = h.given_limits in let b = h.given_steps in cc
+-- so is one to run threads
+threaded : (words : List (List ℕ)) (t : Topology) (limits : Limits) (trace : Bool) (h : AskForRun words t limits trace) → Run t limits trace ≡ threaded_of t h.settings
+threaded words t limits trace h = let a = h.given_limits in let b = h.given_trace in cc
 
-first_word : (x y : List ℕ) (xs ys : List (List ℕ)) → x ∷ xs ≡ y ∷ ys → x ≡ y
-first_word x y xs ys same = ap (λ ws. get_or ws 0 x) same
+-- and a plan to generate is that of its seed, its topology and its settings
+generation : (words : List (List ℕ)) (seed : ℕ) (t : Topology) (limits : Limits) (steps : ℕ) (threads : Bool) (h : AskForGen words seed t limits steps threads) → Gen seed t limits steps threads ≡ generation_of seed t h.settings
+generation words seed t limits steps threads h =
+    ap (λ l. Gen seed t l steps threads) h.given_limits
+    ∙ ap (λ k. Gen seed t (if threads then endless_in h.settings else limits_in h.settings) k threads) h.given_steps
+    ∙ ap (λ b. Gen seed t (if b then endless_in h.settings else limits_in h.settings) (steps_in h.settings) b) h.given_threads
 
 pub one_plan : AskForOnePlan
 one_plan words Check Check one other = refl
-one_plan words Check Listing one other = absurd (cc (one, other))
-one_plan words Check (Sim t limits kind steps trace) one other = absurd (cc (one, other.spelt))
-one_plan words Check (Gen seed t limits steps) one other = absurd (cc (one, other.spelt))
-one_plan words Listing Check one other = absurd (cc (one, other))
 one_plan words Listing Listing one other = refl
-one_plan words Listing (Sim t limits kind steps trace) one other = absurd (cc (one, other.spelt))
-one_plan words Listing (Gen seed t limits steps) one other = absurd (cc (one, other.spelt))
-one_plan words (Gen seed t limits steps) Check one other = absurd (cc (other, one.spelt))
-one_plan words (Gen seed t limits steps) Listing one other = absurd (cc (other, one.spelt))
-one_plan words (Gen seed s limits' steps') (Sim t limits kind steps trace) one other = absurd (sim_is_not_gen (first_word _ _ _ _ (sym other.spelt ∙ one.spelt)))
-one_plan words (Sim t limits kind steps trace) (Gen seed s limits' steps') one other = absurd (sim_is_not_gen (first_word _ _ _ _ (sym one.spelt ∙ other.spelt)))
-one_plan words (Gen m s limits steps) (Gen n t limits' steps') one other =
-    let both : codes "gen" ∷ seed_word m ∷ topology_word s ∷ one.others ≡ codes "gen" ∷ seed_word n ∷ topology_word t ∷ other.others = sym one.spelt ∙ other.spelt in
-    let second : seed_word m ≡ seed_word n = cc in
-    let third : topology_word s ≡ topology_word t = cc in
-    let rest : one.others ≡ other.others = cc in
-    let seed = same_number (codes "seed=") m n one.seeded other.seeded second in
-    let cluster = topology-word_injective s t third in
-    let settings = words-injective one.settings other.settings one.set.in_range other.set.in_range (sym one.set.spelt ∙ rest ∙ other.set.spelt) in
-    generation words m s limits steps one ∙ ap (λ k. generation_of k s one.settings) seed ∙ ap (λ u. generation_of n u one.settings) cluster ∙ ap (generation_of n t) settings ∙ sym (generation words n t limits' steps' other)
-one_plan words (Sim t limits kind steps trace) Check one other = absurd (cc (other, one.spelt))
-one_plan words (Sim t limits kind steps trace) Listing one other = absurd (cc (other, one.spelt))
 one_plan words (Sim s limits kind steps trace) (Sim t limits' kind' steps' trace') one other =
     let both : codes "sim" ∷ topology_word s ∷ one.others ≡ codes "sim" ∷ topology_word t ∷ other.others = sym one.spelt ∙ other.spelt in
     let second : topology_word s ≡ topology_word t = cc in
@@ -171,3 +129,25 @@ one_plan words (Sim s limits kind steps trace) (Sim t limits' kind' steps' trace
     let cluster = topology-word_injective s t second in
     let settings = words-injective one.settings other.settings one.set.in_range other.set.in_range (sym one.set.spelt ∙ rest ∙ other.set.spelt) in
     simulation words s limits kind steps trace one ∙ ap (λ u. simulation_of u one.settings) cluster ∙ ap (simulation_of t) settings ∙ sym (simulation words t limits' kind' steps' trace' other)
+one_plan words (Run s limits trace) (Run t limits' trace') one other =
+    let both : codes "run" ∷ topology_word s ∷ one.others ≡ codes "run" ∷ topology_word t ∷ other.others = sym one.spelt ∙ other.spelt in
+    let second : topology_word s ≡ topology_word t = cc in
+    let rest : one.others ≡ other.others = cc in
+    let cluster = topology-word_injective s t second in
+    let settings = words-injective one.settings other.settings one.set.in_range other.set.in_range (sym one.set.spelt ∙ rest ∙ other.set.spelt) in
+    threaded words s limits trace one ∙ ap (λ u. threaded_of u one.settings) cluster ∙ ap (threaded_of t) settings ∙ sym (threaded words t limits' trace' other)
+one_plan words (Gen m s limits steps threads) (Gen n t limits' steps' threads') one other =
+    let both : codes "gen" ∷ seed_word m ∷ topology_word s ∷ one.others ≡ codes "gen" ∷ seed_word n ∷ topology_word t ∷ other.others = sym one.spelt ∙ other.spelt in
+    let second : seed_word m ≡ seed_word n = cc in
+    let third : topology_word s ≡ topology_word t = cc in
+    let rest : one.others ≡ other.others = cc in
+    let seed = same_number (codes "seed=") m n one.seeded other.seeded second in
+    let cluster = topology-word_injective s t third in
+    let settings = words-injective one.settings other.settings one.set.in_range other.set.in_range (sym one.set.spelt ∙ rest ∙ other.set.spelt) in
+    generation words m s limits steps threads one ∙ ap (λ k. generation_of k s one.settings) seed ∙ ap (λ u. generation_of n u one.settings) cluster ∙ ap (generation_of n t) settings
+    ∙ sym (generation words n t limits' steps' threads' other)
+one_plan words p q one other = absurd (omega (arith, first-PlanOf words p one, first-PlanOf words q other))
+
+-- so their plan tells whether they ask to run threads
+pub by_plan : (words : List (List ℕ)) (p : Plan) → PlanOf words p → (b : Bool) → b ≡ runs_by_threads p → IsTrue b ↔ ((q : Plan) × PlanOf words q × IsTrue (runs_by_threads q))
+by_plan words p asked b is = (λ so. (p, asked, subst IsTrue is so), λ (q, other, so). subst IsTrue (sym (is ∙ ap runs_by_threads (one_plan words p q asked other))) so)

@@ -8,8 +8,8 @@ use Rattle.std.proofs.lemmas.List.Elements.{filter_map-append, All-cons, All-nil
 use Rattle.std.proofs.lemmas.Slice.Eq.{bytes_eq-Decides}
 use Rattle.dsm_top.specs.declared.planning.Given.{Given}
 use Rattle.dsm_top.specs.declared.plans.Setting.{Setting}
-use Rattle.dsm_top.specs.declared.plans.Setting.TheVariants.{Kind as OfKind, Seed, Turns, Looks, Steps, Trace}
-use Rattle.dsm_top.specs.Plans.{name_of, word_of, kind_of, seed_of, turns_of, looks_of, steps_of, trace_of, IsGivenBy}
+use Rattle.dsm_top.specs.declared.plans.Setting.TheVariants.{Kind as OfKind, Seed, Turns, Looks, Steps, Trace, Threads}
+use Rattle.dsm_top.specs.Plans.{name_of, word_of, kind_of, seed_of, turns_of, looks_of, steps_of, trace_of, threads_of, IsGivenBy}
 
 -- the name stands in the word before its first `=`
 name-word : (s : Setting) → name_of s ≡ before_first (λ b. b == 61) (word_of s)
@@ -19,6 +19,7 @@ name-word (Turns n) = refl
 name-word (Looks n) = refl
 name-word (Steps n) = refl
 name-word Trace = refl
+name-word Threads = refl
 
 pub name-from_word : (a b : Setting) → word_of a ≡ word_of b → name_of a ≡ name_of b
 name-from_word a b same = name-word a ∙ ap (before_first (λ b. b == 61)) same ∙ sym (name-word b)
@@ -50,6 +51,10 @@ steps-named _ = refl
 pub trace-named : Names trace_of (codes "trace")
 trace-named Trace = refl
 trace-named _ = refl
+
+pub threads-named : Names threads_of (codes "threads")
+threads-named Threads = refl
+threads-named _ = refl
 
 module _ {A : Type 0} (of : Setting → Option A) (name : List ℕ) (names : Names of name) where
   named : (s : Setting) (x : A) → of s ≡ Some x → name_of s ≡ name
@@ -102,6 +107,7 @@ with_one given s = record {
   looks = option_or (looks_of s) given.looks;
   steps = option_or (steps_of s) given.steps;
   trace = option_or (trace_of s) given.trace;
+  threads = option_or (threads_of s) given.threads;
 }
 
 pub with-IsGivenBy : (given : Given) (s : Setting) (settings : List Setting) → IsGivenBy given settings → All (λ other. name_of other ≢ name_of s) settings → IsGivenBy (with_one given s) (settings ++ s ∷ [])
@@ -112,4 +118,5 @@ with-IsGivenBy given s settings all new = record {
   looks = given-more looks_of (codes "looks") looks-named settings given.looks all.looks s new;
   steps = given-more steps_of (codes "steps") steps-named settings given.steps all.steps s new;
   trace = given-more trace_of (codes "trace") trace-named settings given.trace all.trace s new;
+  threads = given-more threads_of (codes "threads") threads-named settings given.threads all.threads s new;
 }

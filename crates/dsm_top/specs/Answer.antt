@@ -7,18 +7,17 @@ use Rattle.dsm_grammar.specs.Faults.{first_fault_of}
 use Rattle.dsm_grammar.specs.Grammar.{program_of}
 use Rattle.dsm_list.specs.Canonical.{canonical, shape_line}
 use Rattle.dsm_gen.specs.Generated.{generated}
-use Rattle.dsm_report.specs.Report.{report}
+use Rattle.dsm_report.specs.Report.{IsReport}
 use Rattle.dsm_report.specs.Summary.{summary}
 use Rattle.dsm_runs.specs.Outcomes.{Ran}
-use Rattle.dsm_sched.specs.declared.kind.Kind.TheVariants.{Round}
 use Rattle.dsm_io.specs.Faults.{Rose}
 use Rattle.dsm_io.specs.Whole.{ConsumesSome}
 use Rattle.dsm_top.specs.declared.plans.Plan.{Plan}
-use Rattle.dsm_top.specs.declared.plans.Plan.TheVariants.{Check, List as Listing, Sim, Gen}
+use Rattle.dsm_top.specs.declared.plans.Plan.TheVariants.{Check, List as Listing, Sim, Run, Gen}
 use Rattle.dsm_top.specs.declared.reading.Unread.{Unread}
 use Rattle.dsm_top.specs.declared.reading.Unread.TheVariants.{Fault, TooLong, Refused, NoMemory}
 use Rattle.dsm_top.specs.Plans.{PlanOf}
-use Rattle.dsm_top.specs.Run.{Runs, RunsBy}
+use Rattle.dsm_top.specs.Run.{Runs, RunsInThreads, RunsBy}
 use Rattle.dsm_top.specs.Streams.{Reading, Writing, WritesAll, WritesPrefix}
 use Rattle.dsm_top.specs.Refusals.{refused_line, kind_name}
 
@@ -69,17 +68,19 @@ RefusesAndWrites r w = (line : List ℕ) × RefusesText r line × WritesLine w l
 
 -- The program of a plan: that of the seed, or that which the text stands for that was read.
 abbrev pub Takes : Plan → Reading → ProgramText → Type 0
-Takes (Gen seed t limits steps) r p = p ≡ generated seed
+Takes (Gen seed t limits steps threads) r p = p ≡ generated seed
 Takes _ r p = ReadsProgram r p
 
 -- The whole answer of a plan for a program, and what its run left where it is run.
 abbrev pub Answers : Plan → ProgramText → Option Ran → List ℕ → Type 0
 Answers Check p ran bytes = (ran ≡ None) × (bytes ≡ shape_line p)
 Answers Listing p ran bytes = (ran ≡ None) × (bytes ≡ canonical p)
-Answers (Sim t limits kind steps trace) p (Some ran) bytes = Runs t limits kind steps p ran × (bytes ≡ report t p.shape ran trace)
-Answers (Gen seed t limits steps) p (Some ran) bytes = Runs t limits Round steps p ran × (bytes ≡ summary seed t p ran)
+Answers (Sim t limits kind steps trace) p (Some ran) bytes = Runs t limits kind steps p ran × IsReport t p.shape ran trace bytes
+Answers (Run t limits trace) p (Some ran) bytes = RunsInThreads t limits p ran × IsReport t p.shape ran trace bytes
+Answers (Gen seed t limits steps threads) p (Some ran) bytes = RunsBy (Gen seed t limits steps threads) p ran × (bytes ≡ summary seed t p ran)
 Answers (Sim t limits kind steps trace) p None bytes = ⊥
-Answers (Gen seed t limits steps) p None bytes = ⊥
+Answers (Run t limits trace) p None bytes = ⊥
+Answers (Gen seed t limits steps threads) p None bytes = ⊥
 
 -- the words ask for a plan, and this is the answer for its program
 pub record Accepts (words : List (List ℕ)) (r : Reading) (ran : Option Ran) (bytes : List ℕ) : Type 0 where
@@ -94,11 +95,12 @@ abbrev pub IsToRun : Plan → Type 0
 IsToRun Check = ⊥
 IsToRun Listing = ⊥
 IsToRun (Sim t limits kind steps trace) = Unit {0}
-IsToRun (Gen seed t limits steps) = Unit {0}
+IsToRun (Run t limits trace) = Unit {0}
+IsToRun (Gen seed t limits steps threads) = Unit {0}
 
 -- it is to run the program of a seed
 abbrev pub IsToGenerate : Plan → Type 0
-IsToGenerate (Gen seed t limits steps) = Unit {0}
+IsToGenerate (Gen seed t limits steps threads) = Unit {0}
 IsToGenerate _ = ⊥
 
 -- the words ask to run a program

@@ -4,3 +4,4 @@ pub mod Plans
 pub mod Refusals
 pub mod Run
 pub mod Streams
+pub mod Done

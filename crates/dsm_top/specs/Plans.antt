@@ -1,5 +1,5 @@
 -- The words of the command line, and the plans that they stand for.
-use Rattle.std.specs.Prelude.{◌≡◌, ◌≢◌, ℕ, ◌+◌, ◌-◌, ◌<◌, ◌≤◌, ◌^◌, ◌⊎◌, List, [], ◌∷◌, ◌++◌, length, map, take, filter_map, slice_index_or, All, AllPairs, Option, Some, None, Bool, true, false, codes, decimal, String, string_bytes}
+use Rattle.std.specs.Prelude.{◌≡◌, ◌≢◌, ℕ, ◌+◌, ◌-◌, ◌<◌, ◌≤◌, ◌^◌, ◌⊎◌, List, [], ◌∷◌, ◌++◌, length, map, take, filter_map, slice_index_or, All, AllPairs, Option, Some, None, Bool, true, false, if◌then◌else◌, codes, decimal, String, string_bytes}
 use Rattle.std.specs.Option.{option_to_list}
 use Rattle.std.specs.declared.alloc.Global.{Global}
 use Rattle.dsm_words.specs.Counts.{IsFrom1To}
@@ -10,13 +10,13 @@ use Rattle.dsm_sched.specs.declared.kind.Kind.{Kind}
 use Rattle.dsm_sched.specs.declared.kind.Kind.TheVariants.{Round, Mixed}
 use Rattle.dsm_top.specs.declared.planning.Given.{Given}
 use Rattle.dsm_top.specs.declared.plans.Command.{Command}
-use Rattle.dsm_top.specs.declared.plans.Command.TheVariants.{Sim as ToSim, Gen as ToGen}
+use Rattle.dsm_top.specs.declared.plans.Command.TheVariants.{Sim as ToSim, Run as ToRun, Gen as ToGen}
 use Rattle.dsm_top.specs.declared.plans.KindWord.{KindWord}
 use Rattle.dsm_top.specs.declared.plans.KindWord.TheVariants.{Round as RoundWord, Mixed as MixedWord}
 use Rattle.dsm_top.specs.declared.plans.Plan.{Plan}
-use Rattle.dsm_top.specs.declared.plans.Plan.TheVariants.{Check, List as Listing, Sim, Gen}
+use Rattle.dsm_top.specs.declared.plans.Plan.TheVariants.{Check, List as Listing, Sim, Run, Gen}
 use Rattle.dsm_top.specs.declared.plans.Setting.{Setting}
-use Rattle.dsm_top.specs.declared.plans.Setting.TheVariants.{Kind as OfKind, Seed, Turns, Looks, Steps, Trace}
+use Rattle.dsm_top.specs.declared.plans.Setting.TheVariants.{Kind as OfKind, Seed, Turns, Looks, Steps, Trace, Threads}
 
 -- the bytes of each word
 abbrev pub texts : List (String Global) → List (List ℕ)
@@ -30,13 +30,14 @@ name_of (Turns n) = codes "turns"
 name_of (Looks n) = codes "looks"
 name_of (Steps n) = codes "steps"
 name_of Trace = codes "trace"
+name_of Threads = codes "threads"
 
 -- the name of a kind
 abbrev pub kind_name : KindWord → List ℕ
 kind_name RoundWord = codes "round"
 kind_name MixedWord = codes "mixed"
 
--- the value that a setting gives it; `trace` has none
+-- the value that a setting gives it; `trace` and `threads` have none
 abbrev pub value_of : Setting → List ℕ
 value_of (OfKind kind) = kind_name kind
 value_of (Seed n) = decimal n
@@ -44,10 +45,12 @@ value_of (Turns n) = decimal n
 value_of (Looks n) = decimal n
 value_of (Steps n) = decimal n
 value_of Trace = []
+value_of Threads = []
 
 -- a setting as a word
 abbrev pub word_of : Setting → List ℕ
 word_of Trace = name_of Trace
+word_of Threads = name_of Threads
 word_of setting = name_of setting ++ codes "=" ++ value_of setting
 
 -- the value is one that it may have: a seed of 64 bits, 1 to 1,000,000 instructions, to 1,000,000,000 looks, to 1,000,000,000,000 events
@@ -58,13 +61,19 @@ IsInRange (Turns n) = IsFrom1To 1000000 n
 IsInRange (Looks n) = IsFrom1To 1000000000 n
 IsInRange (Steps n) = IsFrom1To 1000000000000 n
 IsInRange Trace = Unit {0}
+IsInRange Threads = Unit {0}
 
--- the command takes the setting: `sim` takes all, and `gen` those of the limits alone
+-- the command takes the setting: `sim` takes all but `threads`, `run` turns and trace alone, and `gen` the limits and `threads` alone
 abbrev pub IsOf : Command → Setting → Type 0
-IsOf ToSim setting = Unit {0}
+IsOf ToSim Threads = ⊥
+IsOf ToSim _ = Unit {0}
+IsOf ToRun (Turns n) = Unit {0}
+IsOf ToRun Trace = Unit {0}
+IsOf ToRun _ = ⊥
 IsOf ToGen (Turns n) = Unit {0}
 IsOf ToGen (Looks n) = Unit {0}
 IsOf ToGen (Steps n) = Unit {0}
+IsOf ToGen Threads = Unit {0}
 IsOf ToGen _ = ⊥
 
 -- the words are these settings of the command, each in its range, and no two of the same name
@@ -99,7 +108,11 @@ abbrev pub trace_of : Setting → Option Bool
 trace_of Trace = Some true
 trace_of _ = None
 
--- what the settings give, or the default where none does: cyclic order, seed 0, 200,000 instructions, 50,000,000 looks, 100,000,000 events, no trace
+abbrev pub threads_of : Setting → Option Bool
+threads_of Threads = Some true
+threads_of _ = None
+
+-- what the settings give, or the default where none does: cyclic order, seed 0, 200,000 instructions, 50,000,000 looks, 100,000,000 events, no trace, no threads
 abbrev pub kind_in : List Setting → KindWord
 kind_in settings = slice_index_or (filter_map kind_of settings) 0 RoundWord
 
@@ -118,9 +131,16 @@ steps_in settings = slice_index_or (filter_map steps_of settings) 0 100000000
 abbrev pub trace_in : List Setting → Bool
 trace_in settings = slice_index_or (filter_map trace_of settings) 0 false
 
+abbrev pub threads_in : List Setting → Bool
+threads_in settings = slice_index_or (filter_map threads_of settings) 0 false
+
 -- the limits that they give
 abbrev pub limits_in : List Setting → Limits
 limits_in settings = record { turns = turns_in settings; looks = Some (looks_in settings) }
+
+-- the limits that they give where there are threads: no look is the last allowed one
+abbrev pub endless_in : List Setting → Limits
+endless_in settings = record { turns = turns_in settings; looks = None }
 
 -- the schedule of this kind; only a mixed one uses the seed
 abbrev pub schedule_of : KindWord → ℕ → Kind
@@ -138,26 +158,47 @@ pub record AskForSim (words : List (List ℕ)) (t : Topology) (limits : Limits) 
   pub given_steps : steps ≡ steps_in settings
   pub given_trace : trace ≡ trace_in settings
 
+-- the words are `run`, a cluster and settings, which give these limits
+pub record AskForRun (words : List (List ℕ)) (t : Topology) (limits : Limits) (trace : Bool) : Type 0 where
+  pub others : List (List ℕ)
+  pub settings : List Setting
+  pub spelt : words ≡ codes "run" ∷ topology_word t ∷ others
+  pub set : AreSettings ToRun others settings
+  pub given_limits : limits ≡ endless_in settings
+  pub given_trace : trace ≡ trace_in settings
+
 -- the word of a seed
 abbrev pub seed_word : ℕ → List ℕ
 seed_word seed = codes "seed=" ++ decimal seed
 
--- the words are `gen`, a seed, a cluster and settings, which give these limits
-pub record AskForGen (words : List (List ℕ)) (seed : ℕ) (t : Topology) (limits : Limits) (steps : ℕ) : Type 0 where
+-- the words are `gen`, a seed, a cluster and settings, which give these limits, and threads or none
+pub record AskForGen (words : List (List ℕ)) (seed : ℕ) (t : Topology) (limits : Limits) (steps : ℕ) (threads : Bool) : Type 0 where
   pub others : List (List ℕ)
   pub settings : List Setting
   pub spelt : words ≡ codes "gen" ∷ seed_word seed ∷ topology_word t ∷ others
   pub seeded : seed < 2 ^ 64
   pub set : AreSettings ToGen others settings
-  pub given_limits : limits ≡ limits_in settings
+  pub given_limits : limits ≡ (if threads then endless_in settings else limits_in settings)
   pub given_steps : steps ≡ steps_in settings
+  pub given_threads : threads ≡ threads_in settings
 
 -- these words ask for this plan
 abbrev pub PlanOf : List (List ℕ) → Plan → Type 0
 PlanOf words Check = words ≡ codes "check" ∷ []
 PlanOf words Listing = words ≡ codes "list" ∷ []
 PlanOf words (Sim t limits kind steps trace) = AskForSim words t limits kind steps trace
-PlanOf words (Gen seed t limits steps) = AskForGen words seed t limits steps
+PlanOf words (Run t limits trace) = AskForRun words t limits trace
+PlanOf words (Gen seed t limits steps threads) = AskForGen words seed t limits steps threads
+
+-- the plan is to run a program with one thread for each processor
+abbrev pub runs_by_threads : Plan → Bool
+runs_by_threads (Run t limits trace) = true
+runs_by_threads (Gen seed t limits steps threads) = threads
+runs_by_threads _ = false
+
+-- the words ask for no such plan
+abbrev pub NeedsNoThreads : List (List ℕ) → Type 0
+NeedsNoThreads words = (p : Plan) → PlanOf words p → runs_by_threads p ≡ false
 
 -- words ask for one plan at most
 abbrev pub AskForOnePlan : Type 0
@@ -186,6 +227,7 @@ pub record IsGivenBy (given : Given) (settings : List Setting) : Type 0 where
   pub looks : filter_map looks_of settings ≡ option_to_list given.looks
   pub steps : filter_map steps_of settings ≡ option_to_list given.steps
   pub trace : filter_map trace_of settings ≡ option_to_list given.trace
+  pub threads : filter_map threads_of settings ≡ option_to_list given.threads
 
 -- the words are settings of the command that give this
 abbrev pub Give : Command → List (List ℕ) → Given → Type 0
@@ -197,3 +239,13 @@ pub record FirstUnset (command : Command) (words : List (List ℕ)) (k : ℕ) : 
   pub within : k ≤ length words
   pub before : AreSome command (take (k - 1) words)
   pub fault : AreSome command (take k words) → ⊥
+
+-- the words are this cluster, and settings of the command that give this
+abbrev pub Cluster : Command → List (List ℕ) → Topology → Given → Type 0
+Cluster command words t given = (others : List (List ℕ)) × (words ≡ topology_word t ∷ others) × Give command others given
+
+-- the number, from 1, of the first faulty one of these words: the first, where no cluster stands there, or else the first behind it that is no setting of the command
+abbrev pub FirstOutside : Command → List (List ℕ) → ℕ → Type 0
+FirstOutside command words k =
+    ((k ≡ 1) × ((t : Topology) (others : List (List ℕ)) → words ≡ topology_word t ∷ others → ⊥))
+    ⊎ ((t : Topology) × (others : List (List ℕ)) × (words ≡ topology_word t ∷ others) × FirstUnset command others (k - 1))

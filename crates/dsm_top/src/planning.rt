@@ -1,9 +1,10 @@
 ghost use Rattle.std.specs.Prelude.{◌≡◌, ◌≢◌, ◌↔◌, ℕ, ◌<◌, ◌≤◌, ◌^◌, IsTrue, All, Any, ◌++◌, ◌+◌, ◌∷◌, [], List, IfSome, IfNone, IfOk, IfErr, MatchOption, length, codes, decimal};
 ghost use Rattle.dsm_words.specs.Counts.{IsFrom1To};
 ghost use Rattle.dsm_words.specs.declared.topology.Topology.{Topology as topology_of};
-ghost use Rattle.dsm_top.specs.declared.plans.Command.TheVariants.{Sim, Gen};
+ghost use Rattle.dsm_top.specs.declared.plans.Command.TheVariants.{Sim, Run, Gen};
+ghost use Rattle.dsm_top.specs.declared.plans.Plan.{Plan as plan_of_words};
 ghost use Rattle.dsm_top.specs.declared.plans.Setting.{Setting as setting_of};
-ghost use Rattle.dsm_top.specs.Plans.{texts, topology_word, seed_word, word_of, name_of, IsInRange, IsOf, AreSome, IsGivenBy, limits_in, schedule_of, Give, FirstUnset, PlanOf, FirstFault};
+ghost use Rattle.dsm_top.specs.Plans.{texts, topology_word, seed_word, word_of, name_of, IsInRange, IsOf, AreSome, IsGivenBy, limits_in, endless_in, schedule_of, Give, FirstUnset, Cluster, FirstOutside, PlanOf, FirstFault, runs_by_threads};
 
 use crate::plans::{
     Command, DEFAULT_LOOKS, DEFAULT_SEED, DEFAULT_STEPS, DEFAULT_TURNS, KindWord, MOST_LOOKS,
@@ -27,6 +28,7 @@ struct Given {
     looks: Option<u64>,
     steps: Option<u64>,
     trace: Option<bool>,
+    threads: Option<bool>,
 }
 
 /// The plan that the words ask for, or the number, from 1, of the first faulty word. It takes no memory.
@@ -41,8 +43,19 @@ pub fn plan(words: &[String]) -> Result<Plan, u64>
         "check" => alone(rest, Plan::Check),
         "list" => alone(rest, Plan::List),
         "sim" => simulation(rest),
+        "run" => threaded(rest),
         "gen" => generation(rest),
         _ => Err(1),
+    }
+}
+
+/// Whether the words ask to run a program with one thread for each processor. It takes no memory.
+pub fn needs_threads(words: &[String]) -> bool
+    ensures { IsTrue result ↔ ((p : plan_of_words) × PlanOf (texts words.now) p × IsTrue (runs_by_threads p)) }
+{
+    match plan(words) {
+        Ok(plan) => plan.runs_by_threads(),
+        Err(_) => false,
     }
 }
 
@@ -59,15 +72,20 @@ fn simulation(rest: &[String]) -> Result<Plan, u64>
     ensures plan { IfOk result (λ p. PlanOf (codes "sim" ∷ texts rest.now) p) }
     ensures fault { IfErr result (λ k. FirstFault (codes "sim" ∷ texts rest.now) k) }
 {
-    let Some((word, rest)) = rest.split_first() else {
-        return Err(2);
-    };
-    let Some(t) = topology(word.as_str()) else {
-        return Err(2);
-    };
-    match settings(Command::Sim, rest) {
-        Ok(given) => Ok(given.simulation(t)),
-        Err(k) => Err(k + 2),
+    match cluster(Command::Sim, rest) {
+        Ok((t, given)) => Ok(given.simulation(t)),
+        Err(k) => Err(k + 1),
+    }
+}
+
+/// The plan of `run` and the words behind it.
+fn threaded(rest: &[String]) -> Result<Plan, u64>
+    ensures plan { IfOk result (λ p. PlanOf (codes "run" ∷ texts rest.now) p) }
+    ensures fault { IfErr result (λ k. FirstFault (codes "run" ∷ texts rest.now) k) }
+{
+    match cluster(Command::Run, rest) {
+        Ok((t, given)) => Ok(given.threaded(t)),
+        Err(k) => Err(k + 1),
     }
 }
 
@@ -82,25 +100,26 @@ fn generation(rest: &[String]) -> Result<Plan, u64>
     let Some(seed) = number_after(word.as_str().as_bytes(), b"seed=") else {
         return Err(2);
     };
-    match seeded(seed, rest) {
-        Ok(plan) => Ok(plan),
+    match cluster(Command::Gen, rest) {
+        Ok((t, given)) => Ok(given.generation(seed, t)),
         Err(k) => Err(k + 2),
     }
 }
 
-/// The plan of `gen`, this seed and the words behind it, or the number, from 1, of the first faulty one of these.
-fn seeded(seed: u64, rest: &[String]) -> Result<Plan, u64>
-    ensures plan { IfOk result (λ p. PlanOf (codes "gen" ∷ seed_word seed ∷ texts rest.now) p) }
-    ensures fault { IfErr result (λ k. (1 ≤ k) × FirstFault (codes "gen" ∷ seed_word seed ∷ texts rest.now) (k + 2)) }
+/// The cluster that the first word asks for, and what the settings behind it give, or the number, from 1, of the first
+/// faulty word.
+fn cluster(command: Command, words: &[String]) -> Result<(Topology, Given), u64>
+    ensures cluster { IfOk result (λ x. Cluster command (texts words.now) x.0 x.1) }
+    ensures fault { IfErr result (λ k. FirstOutside command (texts words.now) k) }
 {
-    let Some((word, rest)) = rest.split_first() else {
+    let Some((word, rest)) = words.split_first() else {
         return Err(1);
     };
     let Some(t) = topology(word.as_str()) else {
         return Err(1);
     };
-    match settings(Command::Gen, rest) {
-        Ok(given) => Ok(given.generation(seed, t)),
+    match settings(command, rest) {
+        Ok(given) => Ok((t, given)),
         Err(k) => Err(k + 1),
     }
 }
@@ -138,6 +157,7 @@ fn settings(command: Command, words: &[String]) -> Result<Given, u64>
         looks: None,
         steps: None,
         trace: None,
+        threads: None,
     };
     for (i, word) in words.iter().enumerate() {
         let Some(more) = given.with_word(command, word.as_str().as_bytes()) else {
@@ -172,6 +192,7 @@ impl Given {
             Setting::Looks(_) => self.looks.is_some(),
             Setting::Steps(_) => self.steps.is_some(),
             Setting::Trace => self.trace.is_some(),
+            Setting::Threads => self.threads.is_some(),
         }
     }
 
@@ -204,6 +225,10 @@ impl Given {
                 trace: Some(true),
                 ..self
             },
+            Setting::Threads => Given {
+                threads: Some(true),
+                ..self
+            },
         }
     }
 
@@ -214,6 +239,16 @@ impl Given {
         Limits {
             turns: self.turns.unwrap_or(DEFAULT_TURNS),
             looks: Some(self.looks.unwrap_or(DEFAULT_LOOKS)),
+        }
+    }
+
+    /// The limits that are given where there are threads: no look is the last allowed one.
+    fn endless(self) -> Limits
+        ensures { (settings : List setting_of) → IsGivenBy self settings → result ≡ endless_in settings }
+    {
+        Limits {
+            looks: None,
+            ..self.limits()
         }
     }
 
@@ -233,15 +268,33 @@ impl Given {
         }
     }
 
+    /// The plan to run this cluster by threads with what is given, and with the default of all else.
+    fn threaded(self, t: Topology) -> Plan
+        ensures { (words : List (List ℕ)) → Give Run words self → PlanOf (codes "run" ∷ topology_word t ∷ words) result }
+    {
+        let trace = self.trace.unwrap_or(false);
+        Plan::Run {
+            t,
+            limits: self.endless(),
+            trace,
+        }
+    }
+
     /// The plan to run the program of this seed on this cluster with what is given, and with the default of all else.
     fn generation(self, seed: u64, t: Topology) -> Plan
         ensures { (words : List (List ℕ)) → Give Gen words self → PlanOf (codes "gen" ∷ seed_word seed ∷ topology_word t ∷ words) result }
     {
+        let threads = self.threads.unwrap_or(false);
         Plan::Gen {
             seed,
             t,
-            limits: self.limits(),
+            limits: if threads {
+                self.endless()
+            } else {
+                self.limits()
+            },
             steps: self.steps.unwrap_or(DEFAULT_STEPS),
+            threads,
         }
     }
 }
@@ -274,8 +327,14 @@ fn takes(command: Command, setting: Setting) -> bool
     ensures { IsTrue result ↔ IsOf command setting }
 {
     match (command, setting) {
+        (Command::Sim, Setting::Threads) => false,
         (Command::Sim, _) => true,
-        (Command::Gen, Setting::Turns(_) | Setting::Looks(_) | Setting::Steps(_)) => true,
+        (Command::Run, Setting::Turns(_) | Setting::Trace) => true,
+        (Command::Run, _) => false,
+        (
+            Command::Gen,
+            Setting::Turns(_) | Setting::Looks(_) | Setting::Steps(_) | Setting::Threads,
+        ) => true,
         (Command::Gen, _) => false,
     }
 }
@@ -296,6 +355,9 @@ fn setting(word: &[u8]) -> Option<Setting>
     }
     if word == b"trace".as_slice() {
         return Some(Setting::Trace);
+    }
+    if word == b"threads".as_slice() {
+        return Some(Setting::Threads);
     }
     if let Some(n) = number_behind(word, b"turns=", MOST_TURNS) {
         return Some(Setting::Turns(n));

@@ -1,3 +1,6 @@
+ghost use Rattle.std.specs.Prelude.{◌≡◌};
+ghost use Rattle.dsm_top.specs.Plans.{runs_by_threads as is_by_threads};
+
 use dsm_protocol::limits::Limits;
 use dsm_sched::kind::Kind;
 use dsm_words::topology::Topology;
@@ -40,14 +43,38 @@ pub enum Plan {
         /// Whether the report has each entry of each processor.
         trace: bool,
     },
+    /// `run NxC` and settings: runs the program on this cluster, with one thread for each processor.
+    Run {
+        t: Topology,
+        /// No look is the last allowed one.
+        limits: Limits,
+        /// Whether the report has each entry of each processor.
+        trace: bool,
+    },
     /// `gen seed=s NxC` and settings: runs the program of this seed on this cluster.
     Gen {
         seed: u64,
         t: Topology,
+        /// With threads no look is the last allowed one.
         limits: Limits,
-        /// The most events of all processors.
+        /// The most events of all processors; not used with threads.
         steps: u64,
+        /// Whether there is one thread for each processor.
+        threads: bool,
     },
+}
+
+impl Plan {
+    /// Whether it is to run a program with one thread for each processor.
+    pub fn runs_by_threads(self) -> bool
+        ensures { result ≡ is_by_threads self }
+    {
+        match self {
+            Plan::Run { .. } => true,
+            Plan::Gen { threads, .. } => threads,
+            Plan::Check | Plan::List | Plan::Sim { .. } => false,
+        }
+    }
 }
 
 /// A command that takes settings.
@@ -55,6 +82,8 @@ pub enum Plan {
 pub enum Command {
     /// `sim`
     Sim,
+    /// `run`
+    Run,
     /// `gen`
     Gen,
 }
@@ -68,7 +97,8 @@ pub enum KindWord {
     Mixed,
 }
 
-/// What a word behind the topology sets. `gen` takes `turns`, `looks` and `steps` alone.
+/// What a word behind the topology sets. `sim` takes all but `threads`, `run` takes `turns` and `trace` alone, and `gen` takes
+/// `turns`, `looks`, `steps` and `threads` alone.
 #[derive(Clone, Copy, Debug, PartialEq, Eq)]
 pub enum Setting {
     /// `kind=round` and `kind=mixed`
@@ -77,10 +107,12 @@ pub enum Setting {
     Seed(u64),
     /// `turns=t`
     Turns(u64),
-    /// `looks=l`
+    /// `looks=l`, which is not used with `threads`
     Looks(u64),
-    /// `steps=k`
+    /// `steps=k`, which is not used with `threads`
     Steps(u64),
     /// `trace`
     Trace,
+    /// `threads`
+    Threads,
 }

@@ -1,20 +1,26 @@
-ghost use Rattle.std.specs.Prelude.{◌≡◌, ◌≢◌, ℕ, ◌≤◌, ◌⊎◌, ◌↔◌, List, IsSome, IsSomeAnd, IfSome, None};
-ghost use Rattle.dsm_io.specs.Faults.{Rose};
+ghost use Rattle.std.specs.Prelude.{◌≡◌, ◌≤◌, ◌⊎◌, IsOk, IsErr, IsSomeAnd, IfOk, IfErr, IfSome, None};
 ghost use Rattle.dsm_runs.specs.Outcomes.{AllHalted, SomeWants};
-ghost use Rattle.dsm_top.specs.declared.plans.Plan.{Plan as plan_of_words};
-ghost use Rattle.dsm_top.specs.Plans.{texts, PlanOf, FirstFault};
-ghost use Rattle.dsm_top.specs.Refusals.{refused_word, refused_line, kind_name as name_of_kind};
-ghost use Rattle.dsm_top.specs.Answer.{RefusesAndWrites, WritesLine, Accepts, AskToRun, AskToGenerate, HasRun};
-ghost use Rattle.dsm_top.specs.Streams.{reading, writing, WritesAll, WritesPrefix};
+ghost use Rattle.dsm_top.specs.Plans.{texts, PlanOf, NeedsNoThreads};
+ghost use Rattle.dsm_top.specs.Refusals.{refused_line, kind_name as name_of_kind};
+ghost use Rattle.dsm_top.specs.Answer.{WritesLine, Answers, Takes, IsToGenerate};
+ghost use Rattle.dsm_top.specs.Run.{IsRunnable};
+ghost use Rattle.dsm_top.specs.Done.{IsDone, Concludes};
+ghost use Rattle.dsm_top.specs.Streams.{reading, writing};
 
-use crate::answering::{Answer, answer_to};
+use crate::answering::{Answer, answer_by_threads, answer_to};
 use crate::planning::plan;
+use crate::plans::Plan;
 use crate::reading::{Unread, take_program};
 use crate::refusal::{Line, kind_name, refuse_line, refuse_word};
 use dsm_asm::fault::AsmFault;
 use dsm_core::ran::Ran;
+use dsm_entry::entry::NoMemory;
 use dsm_io::{Sink, Source, write_all};
+use dsm_isa::program::Program;
+use dsm_runner::gate::Gate;
 use std::alloc::Global;
+use std::sync::Wait;
+use std::thread::Threads;
 
 #[cfg(test)]
 mod tests;
@@ -28,80 +34,105 @@ pub struct Done {
     pub ran: Option<Ran>,
 }
 
-/// Does what the words of the command line ask for: reads the program from the source, or generates it, and writes
-/// the answer to the sink. It waits for nobody.
+/// Does what the words of the command line ask for, on this thread: reads the program from the source, or generates it, and
+/// writes the answer to the sink. It waits for nobody.
 pub fn still<S: Source, K: Sink>(
     alloc: Global,
     words: &[String],
     source: &mut S,
     sink: &mut K,
 ) -> Done
-    ensures status { result.status ≤ 7 }
+    requires { NeedsNoThreads (texts words.now) }
+    ensures { IsDone (texts words.now) (reading S.left S.faults source.old source.new) (writing K.written K.handed K.faults sink.old sink.new) (source.new ≡ source.old) (sink.new ≡ sink.old) result }
+{
+    let Prepared { plan, program } = match prepare(alloc, words, source, sink) {
+        Ok(prepared) => prepared,
+        Err(done) => return done,
+    };
+    conclude(sink, answer_to(alloc, plan, &program))
+}
 
-    // Status 2 exactly where the words ask for no plan. Nothing is read then, and the line that names
-    // the first faulty word is written.
-    ensures words { (result.status ≡ 2) ↔ ((p : plan_of_words) → PlanOf (texts words.now) p → ⊥) }
-    ensures words_line { result.status ≡ 2 → (k : ℕ) × FirstFault (texts words.now) k
-        × WritesLine (writing K.written K.handed K.faults sink.old sink.new) (refused_word k) }
-    ensures words_unread { result.status ≡ 2 → source.new ≡ source.old }
+/// The same for all words: a program that is to be run by threads has one for each processor of its cluster. It may wait.
+pub fn top<R: Threads + Wait + Sync, S: Source, K: Sink, G: Gate + Sync>(
+    rt: &R,
+    alloc: Global,
+    words: &[String],
+    source: &mut S,
+    sink: &mut K,
+    gate: &G,
+) -> Done
+    ensures { IsDone (texts words.now) (reading S.left S.faults source.old source.new) (writing K.written K.handed K.faults sink.old sink.new) (source.new ≡ source.old) (sink.new ≡ sink.old) result }
+{
+    let Prepared { plan, program } = match prepare(alloc, words, source, sink) {
+        Ok(prepared) => prepared,
+        Err(done) => return done,
+    };
+    conclude(sink, answer_as_planned(rt, alloc, plan, &program, gate))
+}
 
-    // Status 3 where the text is too long or has a fault. The line with its first fault is written.
-    ensures text { result.status ≡ 3 → RefusesAndWrites (reading S.left S.faults source.old source.new)
-        (writing K.written K.handed K.faults sink.old sink.new) }
+/// What the plan has to say of the program, by threads where it is one to run them.
+fn answer_as_planned<R: Threads + Wait + Sync, G: Gate + Sync>(
+    rt: &R,
+    alloc: Global,
+    plan: Plan,
+    program: &Program,
+    gate: &G,
+) -> Result<Answer, NoMemory>
+    requires runnable { IsRunnable plan program.now }
+    ensures { IfOk result (λ a. Answers plan program.now a.ran a.text.items) }
+{
+    if plan.runs_by_threads() {
+        return answer_by_threads(rt, alloc, plan, program, gate);
+    }
+    answer_to(alloc, plan, program)
+}
+// The plan that the words ask for, and its program, which was read or generated.
+struct Prepared {
+    plan: Plan,
+    program: Program,
+}
 
-    // Status 4 only where a read failed, and all others only where none did: so 6, for want of memory. Nothing is
-    // written at 4 and 6.
-    ensures read_fault { result.status ≡ 4 → Rose (S.faults source.old) (S.faults source.new) }
-    ensures read_well { result.status ≢ 4 → S.faults source.new ≡ S.faults source.old }
-    ensures unwritten { (result.status ≡ 4) ⊎ (result.status ≡ 6) → sink.new ≡ sink.old }
-
-    // Where the words ask for the program of a seed nothing is read, and so no read fails and no text is refused.
-    ensures generated { AskToGenerate (texts words.now) → (source.new ≡ source.old) × (result.status ≢ 3) × (result.status ≢ 4) }
-
-    // In all other cases the plan's program was taken: that of the seed, or the one of the text, which was read whole and
-    // has no fault. The answer of the plan to it was made. It was written and handed on, but for status 5, which comes only where a write or the finish failed:
-    // then a prefix was written.
-    ensures whole { (result.status ≡ 0) ⊎ (result.status ≡ 1) ⊎ (result.status ≡ 7) → (bytes : List ℕ)
-        × Accepts (texts words.now) (reading S.left S.faults source.old source.new) result.ran bytes
-        × WritesAll (writing K.written K.handed K.faults sink.old sink.new) bytes }
-    ensures prefix { result.status ≡ 5 → (bytes : List ℕ)
-        × Accepts (texts words.now) (reading S.left S.faults source.old source.new) result.ran bytes
-        × WritesPrefix (writing K.written K.handed K.faults sink.old sink.new) bytes }
-
-    // Where the words ask to run a program, it was run by the schedule, and the run is as promised.
-    ensures ran { IsSome result.ran ↔ (AskToRun (texts words.now) × ((result.status ≡ 0) ⊎ (result.status ≡ 1) ⊎ (result.status ≡ 5) ⊎ (result.status ≡ 7))) }
-    ensures run { IfSome result.ran (HasRun (texts words.now) (reading S.left S.faults source.old source.new)) }
-    // Status 0 where all processors halted, 7 where one ended for want of memory, and else 1.
-    ensures halted { result.status ≡ 0 → IfSome result.ran (λ a. AllHalted a.ends) }
-    ensures wanted { result.status ≡ 7 → IsSomeAnd result.ran (λ a. SomeWants a.ends) }
-    ensures stopped { result.status ≡ 1 → IsSomeAnd result.ran (λ a. (AllHalted a.ends → ⊥) × (SomeWants a.ends → ⊥)) }
+/// The plan and its program; or how the call ends where the words ask for none, or the program can't be had.
+fn prepare<S: Source, K: Sink>(
+    alloc: Global,
+    words: &[String],
+    source: &mut S,
+    sink: &mut K,
+) -> Result<Prepared, Done>
+    ensures done { IfErr result (IsDone (texts words.now) (reading S.left S.faults source.old source.new) (writing K.written K.handed K.faults sink.old sink.new) (source.new ≡ source.old) (sink.new ≡ sink.old)) }
+    ensures plan { IfOk result (λ x. PlanOf (texts words.now) x.plan) }
+    ensures taken { IfOk result (λ x. Takes x.plan (reading S.left S.faults source.old source.new) x.program) }
+    ensures read { IfOk result (λ x. S.faults source.new ≡ S.faults source.old) }
+    ensures unread { IfOk result (λ x. IsToGenerate x.plan → source.new ≡ source.old) }
+    ensures sink { IsOk result → sink.new ≡ sink.old }
 {
     let plan = match plan(words) {
         Ok(plan) => plan,
-        Err(k) => return refuse(sink, &refuse_word(k), 2),
+        Err(k) => return Err(refuse(sink, &refuse_word(k), 2)),
     };
-    let program = match take_program(alloc, plan, source) {
-        Ok(program) => program,
-        Err(Unread::Fault) => return without_run(4),
-        Err(Unread::TooLong) => return refuse(sink, &refuse_line(0, "TooLong"), 3),
-        Err(Unread::Refused(fault)) => return refuse_fault(sink, fault),
-        Err(Unread::NoMemory) => return without_run(6),
-    };
-    let Ok(answer) = answer_to(alloc, plan, &program) else {
-        return without_run(6);
-    };
-    finish(sink, answer)
+    match take_program(alloc, plan, source) {
+        Ok(program) => Ok(Prepared { plan, program }),
+        Err(Unread::Fault) => Err(without_run(4)),
+        Err(Unread::TooLong) => Err(refuse(sink, &refuse_line(0, "TooLong"), 3)),
+        Err(Unread::Refused(fault)) => Err(refuse_fault(sink, fault)),
+        Err(Unread::NoMemory) => Err(without_run(6)),
+    }
+}
+
+/// Writes the answer, where there was memory for it.
+fn conclude<K: Sink>(sink: &mut K, answer: Result<Answer, NoMemory>) -> Done
+    ensures answered { IfOk answer (Concludes (writing K.written K.handed K.faults sink.old sink.new) result) }
+    ensures none { IsErr answer → (result.status ≡ 6) × (result.ran ≡ None) × (sink.new ≡ sink.old) }
+{
+    match answer {
+        Ok(answer) => finish(sink, answer),
+        Err(_) => without_run(6),
+    }
 }
 
 /// Writes the answer.
 fn finish<K: Sink>(sink: &mut K, answer: Answer) -> Done
-    ensures status { (result.status ≡ 0) ⊎ (result.status ≡ 1) ⊎ (result.status ≡ 5) ⊎ (result.status ≡ 7) }
-    ensures ran { result.ran ≡ answer.ran }
-    ensures halted { result.status ≡ 0 → IfSome answer.ran (λ a. AllHalted a.ends) }
-    ensures wanted { result.status ≡ 7 → IsSomeAnd answer.ran (λ a. SomeWants a.ends) }
-    ensures stopped { result.status ≡ 1 → IsSomeAnd answer.ran (λ a. (AllHalted a.ends → ⊥) × (SomeWants a.ends → ⊥)) }
-    ensures whole { (result.status ≡ 0) ⊎ (result.status ≡ 1) ⊎ (result.status ≡ 7) → WritesAll (writing K.written K.handed K.faults sink.old sink.new) answer.text.items }
-    ensures prefix { result.status ≡ 5 → WritesPrefix (writing K.written K.handed K.faults sink.old sink.new) answer.text.items }
+    ensures { Concludes (writing K.written K.handed K.faults sink.old sink.new) result answer }
 {
     let status = match write_all(sink, answer.text.as_slice()) {
         Err(_) => 5,

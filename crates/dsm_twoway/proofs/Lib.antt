@@ -28,6 +28,7 @@ pub mod Headline
 pub mod HeldNodes
 pub mod Holding
 pub mod Joining
+pub mod Leaving
 pub mod MakeRows
 pub mod Modes
 pub mod Moving
@@ -48,6 +49,7 @@ pub mod SendNumbers
 pub mod SendRows
 pub mod Shapes
 pub mod Sharing
+pub mod Short
 pub mod Spared
 pub mod StampRows
 pub mod Standing

@@ -1,3 +1,4 @@
+pub mod After
 pub mod Events
 pub mod Promise
 pub mod Tied

@@ -1,5 +1,6 @@
--- What is promised of every word of every run.
-use Rattle.std.specs.Prelude.{ℕ, ◌*◌, ◌<◌, List, slice_index}
+-- What is promised of every word and of every trace of every run.
+use Rattle.std.specs.Prelude.{◌≡◌, ℕ, ◌+◌, ◌*◌, ◌<◌, ◌≤◌, List, Some, length, slice_get, slice_index}
+use Rattle.dsm_entry.specs.declared.entry.Entry.{Entry}
 use Rattle.dsm_flat.specs.Flat.{Ordered, Flat, Sourced, Final}
 use Rattle.dsm_runs.specs.Setups.{Setup, IsSetup, initial}
 use Rattle.dsm_runs.specs.Clusters.{Event}
@@ -17,3 +18,14 @@ pub record WordPromise (s : Setup) (ran : Ran) (w : ℕ) : Type 0 where
 -- it holds of each word, of what any list of events leaves, so at every step of every interleaving on every cluster
 abbrev pub EveryRunKeepsWords : Type 0
 EveryRunKeepsWords = (s : Setup) (events : List Event) (ran : Ran) → IsSetup s → Outcome s events ran → (w : ℕ) → WordPromise s ran w
+
+-- What is promised of how long the traces are.
+pub record TracePromise (s : Setup) (ran : Ran) : Type 0 where
+  -- there is one for each processor,
+  pub all : length ran.traces ≡ s.nodes * s.procs
+  -- with at most two entries for each instruction that the processor may do, and two more for its end
+  pub short : (p : ℕ) (trace : List Entry) → slice_get ran.traces p ≡ Some trace → length trace ≤ 2 * s.limits.turns + 2
+
+-- it holds of what any list of events leaves
+abbrev pub EveryRunIsShort : Type 0
+EveryRunIsShort = (s : Setup) (events : List Event) (ran : Ran) → IsSetup s → Outcome s events ran → TracePromise s ran

@@ -1,7 +1,7 @@
 // The laws of every run.
 ghost use Rattle.dsm_runs.specs.Laws.{LeavesOtherMappings};
 ghost use Rattle.dsm_runs.specs.Promises.{EveryRunKeepsThem, AloneIsOrdered};
-ghost use Rattle.dsm_twoway.specs.Promise.{EveryRunKeepsWords};
+ghost use Rattle.dsm_twoway.specs.Promise.{EveryRunKeepsWords, EveryRunIsShort};
 
 /// The headline: what is promised of every run of every program on every cluster, by whatever list of events, starved ones
 /// included, and so at every step. It does nothing: its clauses are what it is for.
@@ -16,4 +16,6 @@ pub fn every_list()
     ensures mappings { LeavesOtherMappings }
     // Where a processor is alone, each word is ordered.
     ensures alone { AloneIsOrdered }
+    // Each trace is short: a processor makes at most two entries for each instruction that it may do, and two at the end.
+    ensures short { EveryRunIsShort }
 {}

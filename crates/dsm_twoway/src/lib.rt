@@ -1,4 +1,5 @@
 // The headline: the memory of every cluster is flat.
 #![tactic(auto)]
 
+pub mod after;
 pub mod laws;

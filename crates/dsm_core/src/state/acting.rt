@@ -15,7 +15,7 @@ use dsm_words::op::apply;
 
 /// The machine's next operation is found, and room is made for the entry of its next event. Where there is no memory for
 /// that, the machine starves, which is answered by true.
-pub(crate) fn starves(machine: &mut Machine, code: &Code) -> bool
+pub fn starves(machine: &mut Machine, code: &Code) -> bool
     requires objects { ObjectsInside (sizes_in (who machine.old).lay) code.now }
     requires runs { ending (processor_in machine.old code.now) ≡ None }
     ensures who { who machine.new ≡ who machine.old }

@@ -42,6 +42,26 @@ fn raced(x: (u32, u64), y: (u32, u64)) -> Verdict {
     }
 }
 
+// The verdict on word w by clocks, and by chains: then two processors more wait for each other, who touch no word.
+fn two_ways(alloc: Global, w: u32, of: [&[Entry]; 4]) -> Result<(Verdict, Verdict), NoMemory> {
+    let (a, b) = (Obj::Flag(100), Obj::Flag(101));
+    let traces = [
+        trace(alloc, of[0])?,
+        trace(alloc, of[1])?,
+        trace(alloc, of[2])?,
+        trace(alloc, of[3])?,
+    ];
+    let circled = [
+        trace(alloc, of[0])?,
+        trace(alloc, of[1])?,
+        trace(alloc, of[2])?,
+        trace(alloc, of[3])?,
+        trace(alloc, &[pass(a, 1), signal(b, 0)])?,
+        trace(alloc, &[pass(b, 1), signal(a, 0)])?,
+    ];
+    Ok((judge(alloc, &traces, w)?, judge(alloc, &circled, w)?))
+}
+
 // Processor p of so many stores a word, meets the others at barrier 0, loads a word, prints and halts.
 fn worker(
     alloc: Global,
@@ -141,19 +161,19 @@ fn no_access_and_loads_alone_are_ordered(rt: HostRuntime) -> Result<(), Fail> {
     let traces = [trace(alloc, &first)?, trace(alloc, &first)?];
     assert_eq!(rt; judge(alloc, &traces, 2)?, Verdict::Ordered);
     assert_eq!(rt; judge(alloc, &traces, 3)?, Verdict::Ordered);
+    assert_eq!(rt;
+        two_ways(alloc, 3, [&first, &first, &[load(3, 0), load(3, 0)], &[]])?,
+        (Verdict::Ordered, Verdict::Ordered)
+    );
     Ok(())
 }
 
 // From processor 3 a lock, a barrier and a flag lead to processor 0.
-fn judged(alloc: Global, first: &[Entry], last: &[Entry]) -> Result<Verdict, NoMemory> {
+fn judged(alloc: Global, first: &[Entry], last: &[Entry]) -> Result<(Verdict, Verdict), NoMemory> {
     let (l, b, f) = (Obj::Lock(0), Obj::Barrier(0), Obj::Flag(0));
-    let traces = [
-        trace(alloc, last)?,
-        trace(alloc, &[pass(b, 3), signal(f, 4)])?,
-        trace(alloc, &[pass(l, 1), signal(b, 2)])?,
-        trace(alloc, first)?,
-    ];
-    judge(alloc, &traces, 1)
+    let second = [pass(l, 1), signal(b, 2)];
+    let third = [pass(b, 3), signal(f, 4)];
+    two_ways(alloc, 1, [last, &third, &second, first])
 }
 
 #[test]
@@ -164,9 +184,65 @@ fn a_chain_orders_from_its_first_entry_on(rt: HostRuntime) -> Result<(), Fail> {
     let first_late = [signal(l, 0), store(1, 7)];
     let last = [pass(f, 4), pass(f, 5), load(1, 7)];
     let last_early = [pass(f, 4), load(1, 0), pass(f, 5)];
-    assert_eq!(rt; judged(alloc, &first, &last)?, Verdict::Ordered);
-    assert_eq!(rt; judged(alloc, &first_late, &last)?, raced((0, 2), (3, 1)));
-    assert_eq!(rt; judged(alloc, &first, &last_early)?, raced((0, 1), (3, 0)));
+    let late = raced((0, 2), (3, 1));
+    let early = raced((0, 1), (3, 0));
+    assert_eq!(rt;
+        judged(alloc, &first, &last)?,
+        (Verdict::Ordered, Verdict::Ordered)
+    );
+    assert_eq!(rt; judged(alloc, &first_late, &last)?, (late, late));
+    assert_eq!(rt; judged(alloc, &first, &last_early)?, (early, early));
+    Ok(())
+}
+
+// The store stands between two signals of a flag, and the pass of the load counts both or the first alone.
+#[test]
+fn a_pass_may_count_one_signal_too_few(rt: HostRuntime) -> Result<(), Fail> {
+    let alloc = rt.alloc();
+    let f = Obj::Flag(0);
+    let first = [signal(f, 0), store(0, 1), signal(f, 1)];
+    let both = [pass(f, 2), load(0, 1)];
+    let too_few = [pass(f, 1), load(0, 0)];
+    let race = raced((0, 1), (1, 1));
+    assert_eq!(rt;
+        two_ways(alloc, 0, [&first, &both, &[], &[]])?,
+        (Verdict::Ordered, Verdict::Ordered)
+    );
+    assert_eq!(rt;
+        two_ways(alloc, 0, [&first, &too_few, &[], &[]])?,
+        (race, race)
+    );
+    Ok(())
+}
+
+// Of three accesses the first is before the others, or behind them. These are not ordered.
+#[test]
+fn only_the_third_pair_races(rt: HostRuntime) -> Result<(), Fail> {
+    let alloc = rt.alloc();
+    let (f, g) = (Obj::Flag(0), Obj::Flag(1));
+    let first = [store(0, 1), signal(f, 0)];
+    let second = [pass(f, 1), store(0, 2)];
+    let third = [pass(f, 1), load(0, 1)];
+    let last = [pass(f, 1), pass(g, 1), store(0, 4)];
+    let before = raced((1, 1), (2, 1));
+    let behind = raced((2, 1), (3, 0));
+    assert_eq!(rt;
+        two_ways(alloc, 0, [&first, &second, &third, &[]])?,
+        (before, before)
+    );
+    assert_eq!(rt;
+        two_ways(
+            alloc,
+            0,
+            [
+                &last,
+                &[],
+                &[load(1, 0), load(0, 0), signal(f, 0)],
+                &[store(0, 3), signal(g, 0)]
+            ]
+        )?,
+        (behind, behind)
+    );
     Ok(())
 }
 

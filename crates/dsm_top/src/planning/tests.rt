@@ -13,13 +13,17 @@ enum Wanted {
     Traced(u32, u32),
     /// `sim` on so many nodes of so many processors each, in the order that this seed draws, with all else by default.
     Mixed(u32, u32, u64),
+    /// `run` on so many nodes of so many processors each, with these turns, and with its trace or not.
+    Run(u32, u32, u64, bool),
     /// `gen` of this seed on so many nodes of so many processors each, with these turns, looks and steps.
     Gen(u64, u32, u32, u64, u64, u64),
+    /// The same by threads, with these turns and steps.
+    Threads(u64, u32, u32, u64, u64),
     /// The number of the first faulty word.
     Fault(u64),
 }
 
-use Wanted::{Check, Fault, Gen, List, Mixed, Sim, Traced};
+use Wanted::{Check, Fault, Gen, List, Mixed, Run, Sim, Threads, Traced};
 
 const ROWS: &[(&[&str], Wanted)] = &[
     (&["check"], Check),
@@ -148,6 +152,30 @@ const ROWS: &[(&[&str], Wanted)] = &[
     (&["sim", "seed=1", "1x1"], Fault(2)),
     (&["sim", "1x1", "1x1"], Fault(3)),
     (&["sim", "1x1", ""], Fault(3)),
+    (&["run", "1x1"], Run(1, 1, 200_000, false)),
+    (&["run", "8x4", "trace"], Run(8, 4, 200_000, true)),
+    (&["run", "4x8", "turns=5"], Run(4, 8, 5, false)),
+    (
+        &["run", "2x3", "trace", "turns=1000000"],
+        Run(2, 3, 1_000_000, true),
+    ),
+    (&["run"], Fault(2)),
+    (&["run", "8x5"], Fault(2)),
+    (&["run", "1X1"], Fault(2)),
+    (&["run", "turns=5", "1x1"], Fault(2)),
+    (&["run", "seed=1", "1x1"], Fault(2)),
+    (&["run", "1x1", "looks=5"], Fault(3)),
+    (&["run", "1x1", "steps=5"], Fault(3)),
+    (&["run", "1x1", "kind=round"], Fault(3)),
+    (&["run", "1x1", "seed=1"], Fault(3)),
+    (&["run", "1x1", "threads"], Fault(3)),
+    (&["run", "1x1", "turns=0"], Fault(3)),
+    (&["run", "1x1", "turns=1000001"], Fault(3)),
+    (&["run", "1x1", "1x1"], Fault(3)),
+    (&["run", "1x1", "turns=5", "turns=5"], Fault(4)),
+    (&["run", "1x1", "trace", "turns=5", "trace"], Fault(5)),
+    (&["run", "1x1", "trace", "looks=5"], Fault(4)),
+    (&["sim", "1x1", "threads"], Fault(3)),
     (
         &["gen", "seed=1", "4x8"],
         Gen(1, 4, 8, 200_000, 50_000_000, 100_000_000),
@@ -173,10 +201,30 @@ const ROWS: &[(&[&str], Wanted)] = &[
     (&["gen", "seed=1", "1x1", "trace"], Fault(4)),
     (&["gen", "seed=1", "1x1", "kind=round"], Fault(4)),
     (&["gen", "seed=1", "1x1", "seed=1"], Fault(4)),
-    (&["gen", "seed=1", "1x1", "threads"], Fault(4)),
+    (
+        &["gen", "seed=1", "4x8", "threads"],
+        Threads(1, 4, 8, 200_000, 100_000_000),
+    ),
+    (
+        &[
+            "gen", "seed=0", "1x1", "looks=6", "threads", "steps=7", "turns=5",
+        ],
+        Threads(0, 1, 1, 5, 7),
+    ),
+    (&["gen", "seed=1", "1x1", "threads", "threads"], Fault(5)),
+    (&["gen", "seed=1", "1x1", "threads", "looks=0"], Fault(5)),
+    (&["gen", "seed=1", "1x1", "threads", "trace"], Fault(5)),
+    (&["gen", "seed=1", "1x1", "threads="], Fault(4)),
+    (&["gen", "seed=1", "1x1", "threads=1"], Fault(4)),
+    (&["gen", "seed=1", "threads", "1x1"], Fault(3)),
     (&["gen", "seed=1", "1x1", "turns=5", "turns=5"], Fault(5)),
     (&["gen", "seed=1", "1x1", "steps=0"], Fault(4)),
 ];
+
+/// So many nodes of so many processors each.
+fn of(nodes: u32, procs: u32) -> Result<Topology, Fail> {
+    Ok(Topology::new(nodes, procs).ok().ok_or("no such cluster")?)
+}
 
 /// The plan of `sim` on so many nodes of so many processors each.
 fn simulation(
@@ -188,7 +236,7 @@ fn simulation(
     trace: bool,
 ) -> Result<Plan, Fail> {
     Ok(Plan::Sim {
-        t: Topology::new(nodes, procs).ok().ok_or("no such cluster")?,
+        t: of(nodes, procs)?,
         limits,
         kind,
         steps,
@@ -229,29 +277,54 @@ fn answer(wanted: Wanted) -> Result<Result<Plan, u64>, Fail> {
             100_000_000,
             false,
         )?),
+        Run(nodes, procs, turns, trace) => Ok(Plan::Run {
+            t: of(nodes, procs)?,
+            limits: Limits { turns, looks: None },
+            trace,
+        }),
         Gen(seed, nodes, procs, turns, looks, steps) => Ok(Plan::Gen {
             seed,
-            t: Topology::new(nodes, procs).ok().ok_or("no such cluster")?,
+            t: of(nodes, procs)?,
             limits: limits(turns, looks),
             steps,
+            threads: false,
+        }),
+        Threads(seed, nodes, procs, turns, steps) => Ok(Plan::Gen {
+            seed,
+            t: of(nodes, procs)?,
+            limits: Limits { turns, looks: None },
+            steps,
+            threads: true,
         }),
         Fault(k) => Err(k),
     })
 }
 
-/// What `plan` answers to these words.
-fn planned(rt: &HostRuntime, words: &[&str]) -> Result<Result<Plan, u64>, Fail> {
+/// These words as the call takes them.
+fn line(rt: &HostRuntime, words: &[&str]) -> Result<Vec<String>, Fail> {
     let mut strings = Vec::new(rt.alloc());
     for word in words {
         strings.push(String::from_str(rt.alloc(), word)?)?;
     }
-    Ok(plan(strings.as_slice()))
+    Ok(strings)
 }
 
 #[test]
 fn plans(rt: HostRuntime) -> Result<(), Fail> {
     for (words, wanted) in ROWS {
-        assert_eq!(rt; planned(&rt, words)?, answer(*wanted)?, "{words:?}");
+        let line = line(&rt, words)?;
+        assert_eq!(rt; plan(line.as_slice()), answer(*wanted)?, "{words:?}");
+    }
+    Ok(())
+}
+
+// `run` does, and `gen` where `threads` is given.
+#[test]
+fn needs_threads_where_told(rt: HostRuntime) -> Result<(), Fail> {
+    for (words, wanted) in ROWS {
+        let line = line(&rt, words)?;
+        let told = matches!(wanted, Run(..) | Threads(..));
+        assert_eq!(rt; needs_threads(line.as_slice()), told, "{words:?}");
     }
     Ok(())
 }

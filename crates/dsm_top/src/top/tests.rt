@@ -2,6 +2,7 @@
 ghost use Rattle.std.specs.Prelude.{◌<◌};
 
 use super::*;
+use crate::planning::needs_threads;
 use crate::reading::MOST_TEXT;
 use dsm_entry::entry::Place;
 use dsm_flat::judge::judge;
@@ -10,7 +11,9 @@ use dsm_io::{MemSink, MemSource};
 use std::test::Fail;
 
 mod clusters;
+mod cruel;
 mod generated;
+mod threads;
 
 /// A program that stores 7 to word 2, loads it again and prints it.
 const FIRST: &[u8] = b".words 4\nli r1 7\nli r2 2\nst r1 r2 0\nld r3 r2 0\nout r3\nhalt\n";
@@ -154,7 +157,9 @@ const WORDS: &[Row] = &[
         2,
         "refused word 4\n",
     ),
-    (&["run", "1x1"], FIRST, 2, "refused word 1\n"),
+    (&["run"], FIRST, 2, "refused word 2\n"),
+    (&["run", "1x1", "looks=5"], FIRST, 2, "refused word 3\n"),
+    (&["sim", "1x1", "threads"], FIRST, 2, "refused word 3\n"),
 ];
 
 /// Each processor adds 1 to word 0 a hundred times, under a lock; processor 0 prints the sum.
@@ -233,7 +238,7 @@ const RUNS: &[Row] = &[
         &["sim", "1x8"],
         RACERS,
         0,
-        "cashmere 1x8\nend 0 halted\nend 1 halted\nend 2 halted\nend 3 halted\nend 4 halted\nend 5 halted\nend 6 halted\nend 7 halted\nout 0 101\nout 1 102\nout 2 103\nout 3 100\nout 4 107\nout 5 107\nout 6 107\nout 7 107\npage 0 100 101 102 103 107 0 0 0\n",
+        "cashmere 1x8\nend 0 halted\nend 1 halted\nend 2 halted\nend 3 halted\nend 4 halted\nend 5 halted\nend 6 halted\nend 7 halted\nout 0 101\nout 1 102\nout 2 103\nout 3 100\nout 4 107\nout 5 107\nout 6 107\nout 7 107\npage 0 100 101 102 103 107 0 0 0\nraced 4\n",
     ),
     (
         &["sim", "1x2", "kind=round"],
@@ -419,7 +424,7 @@ const ORDER: &[Row] = &[
     (CHECK, b"x:\nfoo", 3, "refused line 2 UnknownWord\n"),
 ];
 
-/// How the top call ended and the bytes written, for a source that fails at these reads and gives so many bytes a
+/// How the top call ended and the bytes written, for words that ask for no threads, a source that fails at these reads and gives so many bytes a
 /// read, and a sink that fails at these calls and takes so many bytes a write.
 fn asked(
     alloc: Global,
@@ -434,6 +439,9 @@ fn asked(
     let mut line = Vec::new(alloc);
     for word in words {
         line.push(String::from_str(alloc, word)?)?;
+    }
+    if needs_threads(line.as_slice()) {
+        return Err("these words ask for threads".into());
     }
     let mut from = MemSource::new(text.to_vec(alloc)?, source.0, source.1.to_vec(alloc)?);
     let mut to = match MemSink::new(alloc, 200_000, sink.0, sink.1.to_vec(alloc)?) {
@@ -459,7 +467,7 @@ fn answer(
     Ok((done.status, written))
 }
 
-/// What stands before the counts of a report, and all of another answer.
+/// What stands before the counts of a report, words that race included, and all of another answer.
 fn uncounted(written: &[u8]) -> &[u8] {
     for i in 0..written.len() {
         if written[i..].starts_with(b"count ") {
@@ -467,6 +475,17 @@ fn uncounted(written: &[u8]) -> &[u8] {
         }
     }
     written
+}
+
+/// The lines of a report for words that race, which stand before its counts.
+fn race_lines(written: &[u8]) -> &[u8] {
+    let written = uncounted(written);
+    for i in 0..written.len() {
+        if written[i..].starts_with(b"raced ") {
+            return &written[i..];
+        }
+    }
+    &[]
 }
 
 /// Whether the answer to these words and this text is that, with that status, but for the counts of a report.

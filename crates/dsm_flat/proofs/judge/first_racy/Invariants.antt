@@ -1,5 +1,7 @@
-use Rattle.dsm_flat.specs.Accesses.{IsOrderedUpTo}
+use Rattle.std.proofs.Common.{ℕ}
+use Rattle.dsm_flat.specs.Order.{Traces}
+use Rattle.dsm_flat.specs.Accesses.{IsShown, IsOrderedUpTo}
 use Rattle.dsm_flat.proofs.judge.first_racy.Given as goal
 
 abbrev pub invariant-loop-m : goal.invariant-loop-m
-invariant-loop-m l = IsOrderedUpTo l.list l.rows l.k l.m
+invariant-loop-m l = (ts : Traces) (w : ℕ) → IsShown ts w l.list l.shown → IsOrderedUpTo ts l.list l.k l.m

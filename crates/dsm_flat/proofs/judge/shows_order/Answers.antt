@@ -1,8 +1,7 @@
-use Rattle.std.proofs.Common.{length, refl, subst, arith}
-use Rattle.std.proofs.lemmas.Option.{slice_get_read}
+use Rattle.std.proofs.Common.{subst, arith}
 use Rattle.dsm_entry.specs.Told.{lists_of}
 use Rattle.dsm_flat.specs.Following.{AllVisited}
-use Rattle.dsm_flat.proofs.Deciding.{next_some, short_place, has_clock, fewer, none_of, shown}
+use Rattle.dsm_flat.proofs.Deciding.{next_some, short_place, has_clock, visit_read, fewer, none_of, shown}
 use Rattle.dsm_flat.proofs.judge.shows_order.Goals as goal
 
 pub loop-visits-init : goal.loop-visits-init
@@ -34,11 +33,9 @@ loop-visits-preserved c =
     let v = c.in-Some.v in
     let new = c.step.new.self in
     let n = next_some ts c.loop-visits.visits new c.in_ok-v.field-0 v c.in-Some.is c.in_ok-v.ensures.next in
-    let lt = has_clock ts c.loop-visits.visits new v c.in_ok-v.ensures.visits n in
-    let at = slice_get_read new.clocks.items (length new.clocks.items) v.place.p c.index.result.now refl lt c.index.ensures in
     record {
       visits = c.in_ok-v.ensures.visits;
-      latest = c.in_ok-note.ensures ts c.loop-visits.visits.done new.done (n.visit c.index.result.now at) n.can.there c.loop-visits.invariant.latest;
+      latest = c.in_ok-note.ensures ts c.loop-visits.visits.done new.done (visit_read ts c.loop-visits.visits new v c.in_ok-v.ensures.visits n c.index.result.now c.index.ensures) n.can.there c.loop-visits.invariant.latest;
     }
 
 pub returns : goal.returns

@@ -1,6 +1,5 @@
-use Rattle.std.proofs.Common.{◌≡◌, ◌∙◌, ◌<◌, ℕ, List, Option, Some, length, MatchOption, refl, arith}
+use Rattle.std.proofs.Common.{◌≡◌, ◌∙◌, ◌<◌, ℕ, List, Option, Some, length, MatchOption, arith}
 use Rattle.std.specs.Prelude.{◌↔◌, Bool, map, slice_get, true, false}
-use Rattle.std.proofs.lemmas.Option.{slice_get_read}
 use Rattle.std.proofs.lemmas.Result.{IfOk-weaker}
 use Rattle.dsm_entry.specs.Told.{lists_of}
 use Rattle.dsm_flat.specs.declared.latest.Latest.{Latest}
@@ -10,7 +9,7 @@ use Rattle.dsm_flat.specs.Order.{Traces, NoCircle}
 use Rattle.dsm_flat.specs.Flat.{Ordered}
 use Rattle.dsm_flat.specs.Following.{AllBlocked, IsNextVisit}
 use Rattle.dsm_flat.specs.Latest.{AreLatest}
-use Rattle.dsm_flat.proofs.Deciding.{all_visited, says_ordered, says_raced, next_some, next_none, short_place, has_clock, fewer}
+use Rattle.dsm_flat.proofs.Deciding.{all_visited, says_ordered, says_raced, next_some, next_none, short_place, has_clock, visit_read, fewer}
 use Rattle.dsm_flat.proofs.raced.raced.Goals as goal
 
 pub loop-visits-init : goal.loop-visits-init
@@ -43,12 +42,10 @@ loop-visits-preserved c =
     let v = c.in-Some.v in
     let new = c.step.new.self in
     let n = next_some (lists_of c.args.traces.now) c.loop-visits.visits c.step.new.self c.in_ok-v.field-0 v c.in-Some.is c.in_ok-v.ensures.next in
-    let lt = has_clock ts c.loop-visits.visits new v c.in_ok-v.ensures.visits n in
-    let at = slice_get_read new.clocks.items (length new.clocks.items) v.place.p c.index.result.now refl lt c.index.ensures in
     record {
       visits = c.in_ok-v.ensures.visits;
       len = c.in_ok-note.ensures.len ∙ c.loop-visits.invariant.len;
-      latest = c.in_ok-note.ensures.latest ts c.loop-visits.visits.done new.done (n.visit c.index.result.now at) n.can.there c.loop-visits.invariant.latest;
+      latest = c.in_ok-note.ensures.latest ts c.loop-visits.visits.done new.done (visit_read ts c.loop-visits.visits new v c.in_ok-v.ensures.visits n c.index.result.now c.index.ensures) n.can.there c.loop-visits.invariant.latest;
     }
 
 -- what the kept flags say of a word, where all entries are visited

@@ -1,6 +1,8 @@
-use Rattle.std.proofs.Common.{sym, ◌∙◌}
+use Rattle.std.proofs.Common.{[], ◌∷◌, codes, sym, ◌∙◌, arith}
+use Rattle.dsm_top.specs.declared.plans.Command.TheVariants.{Gen as ToGen}
 use Rattle.dsm_top.specs.Plans.{texts, seed_word}
-use Rattle.dsm_top.proofs.Words.{no_texts, texts-cons, fault-gen_alone, fault-seed}
+use Rattle.dsm_top.proofs.Words.{no_texts, texts-cons}
+use Rattle.dsm_top.proofs.Fronts.{gen-front, fault-front, fault-gen_alone, fault-seed}
 use Rattle.dsm_top.proofs.planning.generation.Goals as goal
 
 pub returns-in_default-clause-fault : goal.returns-in_default-clause-fault
@@ -14,9 +16,11 @@ returns-in_default-number_after-clause-fault c =
 pub returns-in-Ok-clause-plan : goal.returns-in-Ok-clause-plan
 returns-in-Ok-clause-plan c =
     let cut = texts-cons c.args.rest.now c.in-Some.word.now c.in-Some.rest.now (seed_word c.in-Some-number_after.seed) c.in-Some.ensures.cases.0 (sym c.in-Some-number_after.ensures.some ∙ c.as_bytes.ensures.value ∙ c.as_str.ensures.value) in
-    rw cut c.in-Ok.ensures.plan
+    let (others, spelt, give) = c.in-Ok.ensures.cluster in
+    rw (cut, spelt) (c.generation.ensures others give)
 
 pub returns-in-Err-clause-fault : goal.returns-in-Err-clause-fault
 returns-in-Err-clause-fault c =
-    let cut = texts-cons c.args.rest.now c.in-Some.word.now c.in-Some.rest.now (seed_word c.in-Some-number_after.seed) c.in-Some.ensures.cases.0 (sym c.in-Some-number_after.ensures.some ∙ c.as_bytes.ensures.value ∙ c.as_str.ensures.value) in
-    rw cut c.in-Err.ensures.fault.1
+    let seed = c.in-Some-number_after.seed in
+    let cut = texts-cons c.args.rest.now c.in-Some.word.now c.in-Some.rest.now (seed_word seed) c.in-Some.ensures.cases.0 (sym c.in-Some-number_after.ensures.some ∙ c.as_bytes.ensures.value ∙ c.as_str.ensures.value) in
+    rw cut (fault-front ToGen (codes "gen" ∷ seed_word seed ∷ []) (gen-front seed (omega arith)) (texts c.in-Some.rest.now) c.in-Err.k c.in-Err.ensures.fault)

@@ -10,14 +10,14 @@ returns-in_default-clause-fault c = rw (no_texts c.args.words.now c.in_default.e
 pub returns-in-check-clause-fault : goal.returns-in-check-clause-fault
 returns-in-check-clause-fault c =
     let cut = texts-cons c.args.words.now c.in-Some.name.now c.in-Some.rest.now (codes "check") c.in-Some.ensures.cases.0 (sym c.in-check.is ∙ c.as_str.ensures.value) in
-    rw cut (alone-fault (codes "check") c.in-Some.rest.now Check refl (λ is. cc) (λ is. cc) c.alone.result c.alone.ensures.fault)
+    rw cut (alone-fault (codes "check") c.in-Some.rest.now Check refl c.alone.result c.alone.ensures.fault)
 
 pub returns-in-list-clause-fault : goal.returns-in-list-clause-fault
 returns-in-list-clause-fault c =
     let cut = texts-cons c.args.words.now c.in-Some.name.now c.in-Some.rest.now (codes "list") c.in-Some.ensures.cases.0 (sym c.in-list.is ∙ c.as_str.ensures.value) in
-    rw cut (alone-fault (codes "list") c.in-Some.rest.now Listing refl (λ is. cc) (λ is. cc) c.alone-in-list.result c.alone-in-list.ensures.fault)
+    rw cut (alone-fault (codes "list") c.in-Some.rest.now Listing refl c.alone-in-list.result c.alone-in-list.ensures.fault)
 
 pub returns-in_default-as_str-clause-fault : goal.returns-in_default-as_str-clause-fault
 returns-in_default-as_str-clause-fault c =
     let cut = texts-cons c.args.words.now c.in-Some.name.now c.in-Some.rest.now c.as_str.result.now c.in-Some.ensures.cases.0 c.as_str.ensures.value in
-    rw cut (fault-no_command c.as_str.result.now (texts c.in-Some.rest.now) c.in_default-as_str.not-check c.in_default-as_str.not-list c.in_default-as_str.not-sim c.in_default-as_str.not-gen)
+    rw cut (fault-no_command c.as_str.result.now (texts c.in-Some.rest.now) c.in_default-as_str.not-check c.in_default-as_str.not-list c.in_default-as_str.not-sim c.in_default-as_str.not-run c.in_default-as_str.not-gen)

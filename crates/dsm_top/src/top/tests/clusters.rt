@@ -2,7 +2,7 @@
 // are ordered; where a run is cut, from the number of events that each of their processors makes.
 use super::{
     COUNTER, FIRST, FIRST_REPORT, NEIGHBOURS, NEVER, PRODUCER, RACERS, REMOTE, Row, answer,
-    answers, asked, left, uncounted,
+    answers, asked, left, race_lines, uncounted,
 };
 use dsm_entry::entry::{Entry, Place};
 use dsm_entry::trace::Trace;
@@ -13,27 +13,27 @@ use std::process::Abort;
 use std::test::Fail;
 
 /// Processor 0 stores 5 to word 0, and behind that processor 1 stores 0 to it, with which it started; processor 0 prints 0, the last.
-const AGAIN: &[u8] =
+pub(super) const AGAIN: &[u8] =
     b".words 4\n.flags 3\nme r1\nli r2 0\nbne r1 r2 one\nwait 0 1\nli r3 5\nst r3 r2 0\nset 1\nwait 2 1\nld r4 r2 0\nout r4\nhalt\none: li r3 9\nst r3 r2 1\nset 0\nwait 1 1\nst r2 r2 0\nset 2\nhalt\n";
 
 /// Word 0 has 3. Processor 2 stores 7 to it and then 3 again; between these processor 3, of the same node, releases.
-const BACK: &[u8] =
+pub(super) const BACK: &[u8] =
     b".words 4\n.flags 3\n.init 0 3\nme r1\nli r2 0\nli r3 2\nli r4 3\nbeq r1 r2 p0\nbeq r1 r3 p2\nbeq r1 r4 p3\nhalt\np0: li r5 1\nst r5 r2 2\nset 0\nwait 1 1\nld r6 r2 0\nout r6\nhalt\np2: wait 0 1\nli r5 7\nst r5 r2 0\nli r7 400\nspin: subi r7 r7 1\nbne r7 r2 spin\nst r4 r2 0\nset 1\nhalt\np3: wait 0 1\nli r5 9\nst r5 r2 1\nset 2\nhalt\n";
 
 /// Processors 0 and 1 each store twice to a word of page 2, which one has for itself at first; processor 0 prints both words.
-const ALONE: &[u8] =
+pub(super) const ALONE: &[u8] =
     b".pages 3\n.words 4\n.flags 3\nme r1\nli r2 0\nli r3 1\nli r4 8\nbeq r1 r2 p0\nbeq r1 r3 p1\nhalt\np0: li r5 4\nst r5 r4 0\nli r7 100\ns0: subi r7 r7 1\nbne r7 r2 s0\nli r5 5\nst r5 r4 0\nset 0\nwait 1 1\nwait 2 1\nld r6 r4 0\nout r6\nld r6 r4 1\nout r6\nhalt\np1: li r5 8\nst r5 r4 1\nli r7 400\ns1: subi r7 r7 1\nbne r7 r2 s1\nset 1\nli r7 400\ns2: subi r7 r7 1\nbne r7 r2 s2\nli r5 9\nst r5 r4 1\nset 2\nhalt\n";
 
 /// Processor 2 takes the page away from the node on which two processors still store to it.
-const BESIDE: &[u8] =
+pub(super) const BESIDE: &[u8] =
     b".pages 2\n.words 4\n.flags 1\nme r1\nli r2 0\nli r3 2\nli r4 4\nli r8 300\nbeq r1 r3 p2\nbge r1 r3 done\nadd r4 r4 r1\nli r5 0\nmore: addi r5 r5 1\nst r5 r4 0\nbne r5 r8 more\nset 0\ndone: halt\np2: li r7 200\nspin: subi r7 r7 1\nbne r7 r2 spin\nld r6 r4 2\nwait 0 2\nld r6 r4 0\nout r6\nld r6 r4 1\nout r6\nhalt\n";
 
 /// Each processor stores to a word of its own beside releases, and adds 1 to word 6 under a lock.
-const COALESCED: &[u8] =
+pub(super) const COALESCED: &[u8] =
     b".words 8\n.locks 1\n.flags 1\nme r1\nli r2 0\nli r5 20\nli r4 0\nmore: st r5 r1 0\nset 0\naddi r4 r4 1\nst r4 r1 0\nlock 0\nld r6 r2 6\naddi r6 r6 1\nst r6 r2 6\nunlock 0\nbne r4 r5 more\nhalt\n";
 
 /// Ten sweeps over a grid of 32 by 32, the rows in turn to each processor; processor 0 prints the sum.
-const GRID: &[u8] =
+pub(super) const GRID: &[u8] =
     b".pages 16\n.words 128\n.barriers 1\n.init 528 1000000\nme r1\nprocs r2\nli r3 0\nli r4 1024\nli r5 10\nli r6 31\nli r14 0\nli r15 2\nsweep: addi r7 r1 1\nrow: bge r7 r6 next\nmuli r8 r7 32\naddi r8 r8 1\nadd r9 r8 r3\nsubi r9 r9 32\nadd r10 r8 r4\naddi r11 r10 30\ncol: ld r12 r9 0\nld r13 r9 31\nadd r12 r12 r13\nld r13 r9 33\nadd r12 r12 r13\nld r13 r9 64\nadd r12 r12 r13\nshr r12 r12 r15\nst r12 r10 0\naddi r9 r9 1\naddi r10 r10 1\nbne r10 r11 col\nadd r7 r7 r2\njmp row\nnext: bar 0\nmov r8 r3\nmov r3 r4\nmov r4 r8\nsubi r5 r5 1\nbne r5 r14 sweep\nbne r1 r14 end\nli r12 0\nmov r9 r3\naddi r11 r3 1024\nsum: ld r13 r9 0\nadd r12 r12 r13\naddi r9 r9 1\nbne r9 r11 sum\nout r12\nend: halt\n";
 
 /// Processor 0 stores 6 to word 0 and sets a flag; all others print the word behind it.
@@ -231,7 +231,7 @@ fn runs_on_clusters(rt: HostRuntime) -> Result<(), Fail> {
 }
 
 /// The first lines of a report: the cluster, and that so many processors halted.
-fn halted(alloc: Global, title: &str, procs: u32) -> Result<Vec<u8>, Fail> {
+pub(super) fn halted(alloc: Global, title: &str, procs: u32) -> Result<Vec<u8>, Fail> {
     let mut text = title.as_bytes().to_vec(alloc)?;
     for p in 0..procs {
         text.extend_from_slice(format!(in alloc; "end {p} halted\n")?.as_bytes())?;
@@ -328,7 +328,7 @@ fn relaxes_a_grid(rt: HostRuntime) -> Result<(), Fail> {
 }
 
 /// What a processor printed.
-fn printed(alloc: Global, trace: &Trace) -> Result<Vec<u64>, Fail> {
+pub(super) fn printed(alloc: Global, trace: &Trace) -> Result<Vec<u64>, Fail> {
     let mut outs = Vec::new(alloc);
     for i in 0..trace.len() {
         if let Some(Entry::Out { v }) = trace.get(i) {
@@ -350,7 +350,7 @@ fn neighbours_are_ordered(rt: HostRuntime) -> Result<(), Fail> {
     Ok(())
 }
 
-// Processors 4 and 5 race for word 4, on the page of four others, who get what they must.
+// Processors 4 and 5 race for word 4, on the page of four others, who get what they must; it is the only word that is reported.
 #[test]
 fn racing_neighbours(rt: HostRuntime) -> Result<(), Fail> {
     races(&rt, rt.alloc(), &["sim", "6x1"])
@@ -372,8 +372,9 @@ fn racing_neighbours_in_mixed_order(rt: HostRuntime) -> Result<(), Fail> {
 
 // What the neighbours and the racers leave.
 fn races(rt: &impl Abort, alloc: Global, words: &[&str]) -> Result<(), Fail> {
-    let (done, _) = asked(alloc, words, RACERS, (4096, &[]), (4096, &[]))?;
+    let (done, written) = asked(alloc, words, RACERS, (4096, &[]), (4096, &[]))?;
     assert_eq!(rt; done.status, 0);
+    assert_eq!(rt; race_lines(&written), b"raced 4\n".as_slice(), "{words:?}");
     let ran = done.ran.ok_or("no run")?;
     assert!(rt; ran.traces.len() == 6);
     for (p, wanted) in [101, 102, 103, 100].iter().enumerate() {

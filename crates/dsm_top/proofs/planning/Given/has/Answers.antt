@@ -1,6 +1,6 @@
 use Rattle.std.proofs.Common.{codes}
-use Rattle.dsm_top.specs.Plans.{kind_of, seed_of, turns_of, looks_of, steps_of, trace_of}
-use Rattle.dsm_top.proofs.Settings.{given-Any, kind-named, seed-named, turns-named, looks-named, steps-named, trace-named}
+use Rattle.dsm_top.specs.Plans.{kind_of, seed_of, turns_of, looks_of, steps_of, trace_of, threads_of}
+use Rattle.dsm_top.proofs.Settings.{given-Any, kind-named, seed-named, turns-named, looks-named, steps-named, trace-named, threads-named}
 use Rattle.dsm_top.proofs.planning.Given.has.Goals as goal
 
 pub returns-in-Kind : goal.returns-in-Kind
@@ -20,3 +20,6 @@ returns-in-Steps c settings given = rw (c.is_some-in-Steps.ensures, c.in-Steps.i
 
 pub returns-in-Trace : goal.returns-in-Trace
 returns-in-Trace c settings given = rw (c.is_some-in-Trace.ensures, c.in-Trace.is) (given-Any trace_of (codes "trace") trace-named settings c.args.self.trace given.trace)
+
+pub returns-in-Threads : goal.returns-in-Threads
+returns-in-Threads c settings given = rw (c.is_some-in-Threads.ensures, c.in-Threads.is) (given-Any threads_of (codes "threads") threads-named settings c.args.self.threads given.threads)

@@ -1,4 +1,4 @@
-use Rattle.dsm_top.specs.declared.plans.Setting.TheVariants.{Kind as OfKind, Seed, Turns, Looks, Steps, Trace}
+use Rattle.dsm_top.specs.declared.plans.Setting.TheVariants.{Kind as OfKind, Seed, Turns, Looks, Steps, Trace, Threads}
 use Rattle.dsm_top.proofs.Settings.{with-IsGivenBy}
 use Rattle.dsm_top.proofs.planning.Given.with.Goals as goal
 
@@ -19,3 +19,6 @@ returns-in-Steps c = rw c.in-Steps.is (with-IsGivenBy c.args.self (Steps c.in-St
 
 pub returns-in-Trace : goal.returns-in-Trace
 returns-in-Trace c = rw c.in-Trace.is (with-IsGivenBy c.args.self Trace)
+
+pub returns-in-Threads : goal.returns-in-Threads
+returns-in-Threads c = rw c.in-Threads.is (with-IsGivenBy c.args.self Threads)

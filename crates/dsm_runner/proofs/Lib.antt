@@ -1,0 +1,13 @@
+pub mod Afters
+pub mod EffectLaws
+pub mod Ends
+pub mod Fresh
+pub mod Fronts
+pub mod Gathers
+pub mod Joins
+pub mod Looks
+pub mod Moves
+pub mod Numbers
+pub mod Puts
+pub mod Running
+pub mod Seats

@@ -1,0 +1,10 @@
+pub mod Boards
+pub mod Effects
+pub mod Helds
+pub mod Holds
+pub mod Machines
+pub mod Outcomes
+pub mod Places
+pub mod Sights
+pub mod Steps
+pub mod Workers
