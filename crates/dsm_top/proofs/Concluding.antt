@@ -1,5 +1,5 @@
 -- How the top call ends, once there is a plan and its program.
-use Rattle.std.proofs.Common.{◌≡◌, ◌≢◌, ◌⊎◌, ℕ, ◌≤◌, List, Option, None, Some, Result, Ok, Err, refl, sym, ap, subst, inl, inr, arith}
+use Rattle.std.proofs.Common.{◌≡◌, ◌≢◌, ◌⊎◌, ℕ, ◌≤◌, List, Option, None, Some, Result, Ok, Err, refl, sym, subst, inl, inr, arith}
 use Rattle.std.specs.Prelude.{IsSome, IfSome, IsSomeAnd, IfOk, IsErr}
 use Rattle.dsm_isa.specs.ProgramText.{ProgramText}
 use Rattle.dsm_runs.specs.Outcomes.{Ran, AllHalted, SomeWants}
@@ -8,8 +8,8 @@ use Rattle.dsm_top.specs.declared.plans.Plan.{Plan}
 use Rattle.dsm_top.specs.declared.top.Done.{Done}
 use Rattle.dsm_top.specs.Plans.{PlanOf, FirstFault}
 use Rattle.dsm_top.specs.Refusals.{refused_word}
-use Rattle.dsm_top.specs.Answer.{Accepts, Answers, AskToRun, HasRun, IsToGenerate, Takes, WritesLine}
-use Rattle.dsm_top.specs.Streams.{Reading, Writing, WritesAll, WritesPrefix}
+use Rattle.dsm_top.specs.Answer.{Accepts, Answers, HasRun, IsToGenerate, Takes, WritesLine}
+use Rattle.dsm_top.specs.Streams.{Reading, Writing}
 use Rattle.dsm_top.specs.Done.{Answered, Concludes, IsDone}
 use Rattle.dsm_top.proofs.OnePlan.{one_plan}
 use Rattle.dsm_top.proofs.Running.{asked_to, has_ran, has_run}

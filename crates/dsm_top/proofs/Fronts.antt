@@ -4,7 +4,7 @@ use Rattle.std.proofs.Math.Seq.{take-append_seam, take-append-add}
 use Rattle.std.proofs.lemmas.List.Elements.{All-nil}
 use Rattle.dsm_words.specs.declared.topology.Topology.{Topology}
 use Rattle.dsm_top.specs.declared.plans.Plan.{Plan}
-use Rattle.dsm_top.specs.declared.plans.Plan.TheVariants.{Check, List as Listing, Sim, Run, Gen}
+use Rattle.dsm_top.specs.declared.plans.Plan.TheVariants.{Sim, Run, Gen}
 use Rattle.dsm_top.specs.declared.plans.Command.{Command}
 use Rattle.dsm_top.specs.declared.plans.Command.TheVariants.{Sim as ToSim, Run as ToRun, Gen as ToGen}
 use Rattle.dsm_top.specs.Plans.{topology_word, seed_word, IsInRange, IsOf, AreSettings, AreSome, PlanOf, BeginsPlan, FirstFault, FirstUnset, FirstOutside}

@@ -1,5 +1,5 @@
 -- Which words ask for a plan, and which is the first that doesn't fit.
-use Rattle.std.proofs.Common.{◌≡◌, ◌≢◌, ◌⊎◌, ℕ, ◌+◌, ◌-◌, ◌<◌, ◌≤◌, ◌^◌, if◌then◌else◌, List, [], ◌∷◌, ◌++◌, length, get_or, take, drop, Option, Some, None, codes, filter_map, refl, sym, ap, ◌∙◌, subst, inl, inr, arith, take-append-drop, String, string_bytes, Result, Ok, Err}
+use Rattle.std.proofs.Common.{◌≡◌, ◌≢◌, ℕ, ◌<◌, ◌≤◌, ◌^◌, if◌then◌else◌, List, [], ◌∷◌, length, get_or, drop, Option, Some, None, codes, filter_map, refl, sym, ap, ◌∙◌, subst, inl, inr, arith, take-append-drop, String, string_bytes, Result, Ok, Err}
 use Rattle.std.specs.Prelude.{slice_index_or, IfErr}
 use Rattle.std.specs.declared.alloc.Global.{Global}
 use Rattle.std.specs.Option.{option_to_list, unwrap_or}
@@ -8,7 +8,7 @@ use Rattle.dsm_top.specs.declared.plans.Plan.{Plan}
 use Rattle.dsm_top.specs.declared.plans.Plan.TheVariants.{Check, List as Listing, Sim, Run, Gen}
 use Rattle.dsm_top.specs.declared.plans.Command.TheVariants.{Sim as ToSim, Run as ToRun, Gen as ToGen}
 use Rattle.dsm_top.specs.declared.plans.Setting.{Setting}
-use Rattle.dsm_top.specs.Plans.{texts, topology_word, seed_word, AreSettings, limits_in, endless_in, kind_in, seed_in, schedule_of, steps_in, trace_in, threads_in, PlanOf, BeginsPlan, FirstFault}
+use Rattle.dsm_top.specs.Plans.{texts, topology_word, seed_word, AreSettings, limits_in, endless_in, kind_in, seed_in, schedule_of, steps_in, trace_in, threads_in, PlanOf, FirstFault}
 
 -- what is given, or the default
 pub in-given : {A : Type 0} (of : Setting → Option A) (settings : List Setting) (o : Option A) (d : A) → filter_map of settings ≡ option_to_list o → slice_index_or (filter_map of settings) 0 d ≡ unwrap_or o d

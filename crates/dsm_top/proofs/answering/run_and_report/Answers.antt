@@ -1,4 +1,3 @@
-use Rattle.std.proofs.Common.{Result, Ok, Err, Some, List, ℕ, ◌≡◌, subst, sym}
 use Rattle.dsm_top.proofs.Running.{runs_are, reported}
 use Rattle.dsm_top.proofs.answering.run_and_report.Goals as goal
 
