@@ -3,8 +3,9 @@
 ; several nodes the page goes with the lock: `unlock` sends what was stored home and tells the other nodes, and behind `lock` a
 ; node that was told gets the page anew.
 ; Take these two words away, `lock 0` behind its label and the line `unlock 0`: under `sim 1x4` processor 0 prints 152, under
-; `sim 2x2` 102, and under `sim 4x1` 100, where each node counts in a copy of its own. Take only the line `unlock 0` away: all wait
-; for a lock that nobody gives back, and with `looks=100` they end as `looked`, or as `stopped by` one that did.
+; `sim 2x2` 102, and under `sim 4x1` 100, where each node counts in a copy of its own; and each report has the line `raced 0`. Take
+; only the line `unlock 0` away: all wait for a lock that nobody gives back, and with `looks=100` they end as `looked`, or as
+; `stopped by` one that did.
 .words 4
 .locks 1
 .barriers 1

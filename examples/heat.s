@@ -4,7 +4,7 @@
 ; Look at the line `out`, the sum of all cells behind 8 steps: 2824215 on each cluster. Each processor has every P-th cell, so on
 ; several nodes all of them write each page, and read what others wrote in the step before.
 ; Take `bar 0` behind `next:` away: under `sim 1x4` the sum happens to stay, under `sim 2x2` and `sim 4x1` it is another one. The
-; program races then, and a good report proves nothing of it.
+; program races then, and on each of these clusters the report has lines `raced`, also where the sum is right.
 .pages 4
 .words 16
 .barriers 1

@@ -2,7 +2,8 @@
 ; the word of its right neighbour. Run it with `sim 1x4` and `sim 4x1`.
 ; Look at the lines `out`: processor 0 prints 1, the square of 1, and processor 3 prints 0, the square of 0. Take `bar 0` away: under
 ; `sim 1x4` all print the same as before, by the luck of this schedule, and under `sim 4x1` all print 0, since no node hears of what
-; another stored. Without the barrier the loads race, and a good report proves nothing of them.
+; another stored. Without the barrier the loads race: on both clusters the report has the lines `raced 0` to `raced 3`, whatever was
+; printed.
 .words 8
 .barriers 1
 me r1

@@ -2,7 +2,8 @@
 ; `sim 3x1`.
 ; Look at `waitr 0 r3`: it waits until the flag was set r3 times, so the value of that number is there when it is loaded, also on
 ; another node: `set` sends the value home and tells the others, and behind `waitr` a node that was told gets the page anew. With
-; `wait 0 1` in its place the consumers wait for the first value alone, and print 0 for those that come later.
+; `wait 0 1` in its place the consumers wait for the first value alone, and print 0 for those that come later; the report then has
+; the lines `raced 1` and `raced 2`.
 .words 4
 .flags 1
 me r1

@@ -152,30 +152,6 @@ const ROWS: &[(&[&str], Wanted)] = &[
     (&["sim", "seed=1", "1x1"], Fault(2)),
     (&["sim", "1x1", "1x1"], Fault(3)),
     (&["sim", "1x1", ""], Fault(3)),
-    (&["run", "1x1"], Run(1, 1, 200_000, false)),
-    (&["run", "8x4", "trace"], Run(8, 4, 200_000, true)),
-    (&["run", "4x8", "turns=5"], Run(4, 8, 5, false)),
-    (
-        &["run", "2x3", "trace", "turns=1000000"],
-        Run(2, 3, 1_000_000, true),
-    ),
-    (&["run"], Fault(2)),
-    (&["run", "8x5"], Fault(2)),
-    (&["run", "1X1"], Fault(2)),
-    (&["run", "turns=5", "1x1"], Fault(2)),
-    (&["run", "seed=1", "1x1"], Fault(2)),
-    (&["run", "1x1", "looks=5"], Fault(3)),
-    (&["run", "1x1", "steps=5"], Fault(3)),
-    (&["run", "1x1", "kind=round"], Fault(3)),
-    (&["run", "1x1", "seed=1"], Fault(3)),
-    (&["run", "1x1", "threads"], Fault(3)),
-    (&["run", "1x1", "turns=0"], Fault(3)),
-    (&["run", "1x1", "turns=1000001"], Fault(3)),
-    (&["run", "1x1", "1x1"], Fault(3)),
-    (&["run", "1x1", "turns=5", "turns=5"], Fault(4)),
-    (&["run", "1x1", "trace", "turns=5", "trace"], Fault(5)),
-    (&["run", "1x1", "trace", "looks=5"], Fault(4)),
-    (&["sim", "1x1", "threads"], Fault(3)),
     (
         &["gen", "seed=1", "4x8"],
         Gen(1, 4, 8, 200_000, 50_000_000, 100_000_000),
@@ -201,6 +177,36 @@ const ROWS: &[(&[&str], Wanted)] = &[
     (&["gen", "seed=1", "1x1", "trace"], Fault(4)),
     (&["gen", "seed=1", "1x1", "kind=round"], Fault(4)),
     (&["gen", "seed=1", "1x1", "seed=1"], Fault(4)),
+    (&["gen", "seed=1", "1x1", "turns=5", "turns=5"], Fault(5)),
+    (&["gen", "seed=1", "1x1", "steps=0"], Fault(4)),
+];
+
+/// Words with threads, or that are refused for what they say of them, and some without.
+const THREADED: &[(&[&str], Wanted)] = &[
+    (&["run", "1x1"], Run(1, 1, 200_000, false)),
+    (&["run", "8x4", "trace"], Run(8, 4, 200_000, true)),
+    (&["run", "4x8", "turns=5"], Run(4, 8, 5, false)),
+    (
+        &["run", "2x3", "trace", "turns=1000000"],
+        Run(2, 3, 1_000_000, true),
+    ),
+    (&["run"], Fault(2)),
+    (&["run", "8x5"], Fault(2)),
+    (&["run", "1X1"], Fault(2)),
+    (&["run", "turns=5", "1x1"], Fault(2)),
+    (&["run", "seed=1", "1x1"], Fault(2)),
+    (&["run", "1x1", "looks=5"], Fault(3)),
+    (&["run", "1x1", "steps=5"], Fault(3)),
+    (&["run", "1x1", "kind=round"], Fault(3)),
+    (&["run", "1x1", "seed=1"], Fault(3)),
+    (&["run", "1x1", "threads"], Fault(3)),
+    (&["run", "1x1", "turns=0"], Fault(3)),
+    (&["run", "1x1", "turns=1000001"], Fault(3)),
+    (&["run", "1x1", "1x1"], Fault(3)),
+    (&["run", "1x1", "turns=5", "turns=5"], Fault(4)),
+    (&["run", "1x1", "trace", "turns=5", "trace"], Fault(5)),
+    (&["run", "1x1", "trace", "looks=5"], Fault(4)),
+    (&["sim", "1x1", "threads"], Fault(3)),
     (
         &["gen", "seed=1", "4x8", "threads"],
         Threads(1, 4, 8, 200_000, 100_000_000),
@@ -217,8 +223,13 @@ const ROWS: &[(&[&str], Wanted)] = &[
     (&["gen", "seed=1", "1x1", "threads="], Fault(4)),
     (&["gen", "seed=1", "1x1", "threads=1"], Fault(4)),
     (&["gen", "seed=1", "threads", "1x1"], Fault(3)),
-    (&["gen", "seed=1", "1x1", "turns=5", "turns=5"], Fault(5)),
-    (&["gen", "seed=1", "1x1", "steps=0"], Fault(4)),
+    (&["check"], Check),
+    (&["list"], List),
+    (&["sim", "1x1", "trace"], Traced(1, 1)),
+    (
+        &["gen", "seed=0", "1x1", "looks=6", "steps=7", "turns=5"],
+        Gen(0, 1, 1, 5, 6, 7),
+    ),
 ];
 
 /// So many nodes of so many processors each.
@@ -318,11 +329,12 @@ fn plans(rt: HostRuntime) -> Result<(), Fail> {
     Ok(())
 }
 
-// `run` does, and `gen` where `threads` is given.
+// `run` needs threads, and so does `gen` where `threads` is given.
 #[test]
-fn needs_threads_where_told(rt: HostRuntime) -> Result<(), Fail> {
-    for (words, wanted) in ROWS {
+fn plans_threads(rt: HostRuntime) -> Result<(), Fail> {
+    for (words, wanted) in THREADED {
         let line = line(&rt, words)?;
+        assert_eq!(rt; plan(line.as_slice()), answer(*wanted)?, "{words:?}");
         let told = matches!(wanted, Run(..) | Threads(..));
         assert_eq!(rt; needs_threads(line.as_slice()), told, "{words:?}");
     }
