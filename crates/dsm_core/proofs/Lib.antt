@@ -1,4 +1,5 @@
 pub mod FirstWords
 pub mod Handing
 pub mod Leaving
+pub mod Rooms
 pub mod Stepping

@@ -98,7 +98,7 @@ module _ (st : State) (p : ℕ) (m : Machine) (inside : p < length st.machines.i
   pub at_processor : (f : Machine → Processor) → slice_get (map f st.machines.items) p ≡ Some (f m)
   at_processor f = slice_get-map f st.machines.items p ∙ rw at_machine refl
 
-  pub put_back : (f : Machine → Processor) → map f (slice_set st.machines.items p m) ≡ map f st.machines.items
+  pub put_back : {X : Type 0} (f : Machine → X) → map f (slice_set st.machines.items p m) ≡ map f st.machines.items
   put_back f = ap (map f) (ap (slice_set st.machines.items p) is ∙ set-get_or st.machines.items p m)
 
   pub who_is : who m ≡ record { lay = lay_of st.lay; p = p; limits = st.limits }

@@ -7,9 +7,8 @@ ghost use Rattle.dsm_machine.specs.Machines.{who};
 mod acting;
 mod leaving;
 pub mod parts;
+mod room;
 mod starting;
-#[cfg(test)]
-mod tests;
 
 use acting::act;
 pub use acting::starves;
@@ -49,6 +48,7 @@ impl State {
     ghost use Rattle.dsm_isa.specs.declared.instr.Instr.{Instr};
     ghost use Rattle.dsm_protocol.specs.Processors.{ending};
     ghost use Rattle.dsm_runs.specs.Clusters.{IsReached};
+    ghost use Rattle.dsm_core.specs.Room.{rooms, UsesOne};
     ghost use Rattle.dsm_core.specs.States.{setup_in, cluster_in, IsFor, Stepped, HasNoRoom, AllEnded};
 
     /// One event of processor `p`, where it has not ended. It takes memory for one entry at most, and where there is
@@ -61,6 +61,8 @@ impl State {
         ensures step { Stepped (setup_in self.old program.now) (cluster_in self.old program.now.code) (cluster_in self.new program.now.code) p result }
         // Memory is wanting only where there was no room for an entry.
         ensures full { result ≡ Step.NoMemory → HasNoRoom self.old p }
+        // Its trace loses room for one entry at most, and no other one loses any.
+        ensures room { UsesOne p (rooms self.old) (rooms self.new) }
         // From a reached state it leads to a reached one, of which all promises hold.
         ensures reached { IsReached (setup_in self.old program.now) (cluster_in self.old program.now.code) → IsReached (setup_in self.new program.now) (cluster_in self.new program.now.code) }
     {

@@ -1,4 +1,4 @@
-ghost use Rattle.std.specs.Prelude.{◌≡◌, ◌+◌, ◌<◌, ◌++◌, [], ◌∷◌, length, slice_get, OnOk, OnErr, IsOk};
+ghost use Rattle.std.specs.Prelude.{◌≡◌, ◌+◌, ◌<◌, ◌≤◌, ◌++◌, [], ◌∷◌, length, slice_get, OnOk, OnErr, IsOk};
 
 use crate::entry::{Entry, NoMemory};
 use std::alloc::Global;
@@ -44,11 +44,24 @@ impl Trace {
         ensures ready { 0 < self.old.spare → IsOk result }
         ensures same { 0 < self.old.spare → self.new.spare ≡ self.old.spare }
     {
-        if self.spare > 0 {
+        self.reserve(1)
+    }
+
+    /// Makes room for `count` entries. Where there is room for so many already, it takes no memory; where memory is
+    /// not got, the trace stays as it was, and had less room.
+    pub fn reserve(&mut self, count: u64) -> Result<(), NoMemory>
+        ensures list { self.new.list ≡ self.old.list }
+        ensures ok { OnOk result (count ≤ self.new.spare) }
+        ensures err { OnErr result (self.new.spare ≡ self.old.spare) }
+        ensures full { OnErr result (self.old.spare < count) }
+        ensures ready { count ≤ self.old.spare → IsOk result }
+        ensures same { count ≤ self.old.spare → self.new.spare ≡ self.old.spare }
+    {
+        if self.spare >= count {
             return Ok(());
         }
-        self.entries.reserve(1)?;
-        self.spare = 1;
+        self.entries.reserve(count as usize)?;
+        self.spare = count;
         Ok(())
     }
 
@@ -97,6 +110,19 @@ mod tests {
         assert_eq!(rt; trace.len(), 2);
         assert_eq!(rt; trace.get(0), Some(Entry::Out { v: 7 }));
         assert_eq!(rt; trace.get(2), None);
+        Ok(())
+    }
+
+    // Room made at once is room for as many, and asking for less leaves it.
+    #[test]
+    fn reserves_for_several(rt: HostRuntime) -> Result<(), Fail> {
+        let mut trace = Trace::new(rt.alloc());
+        assert_eq!(rt; trace.reserve(3), Ok(()));
+        assert_eq!(rt; trace.reserve(2), Ok(()));
+        trace.push(Entry::Out { v: 7 });
+        trace.push(Entry::Out { v: 8 });
+        trace.push(Entry::Out { v: 9 });
+        assert_eq!(rt; trace.get(2), Some(Entry::Out { v: 9 }));
         Ok(())
     }
 }

@@ -21,9 +21,6 @@ use dsm_entry::entry::{Entry, NoMemory};
 use dsm_entry::trace::Trace;
 use std::alloc::Global;
 
-#[cfg(test)]
-mod tests;
-
 // Whether at least one of two accesses stores.
 fn conflict(x: Access, y: Access) -> bool
     ensures { MatchBool result ((x.stores ≡ true) ⊎ (y.stores ≡ true)) ((x.stores ≡ false) × (y.stores ≡ false)) }

@@ -14,9 +14,6 @@ use dsm_entry::entry::{Entry, NoMemory};
 use dsm_entry::trace::Trace;
 use std::alloc::Global;
 
-#[cfg(test)]
-mod tests;
-
 // So many words, none of which is accessed yet.
 fn untouched(alloc: Global, words: u32) -> Result<Vec<Latest>, NoMemory>
     ensures len { IfOk result (λ v. length v.items ≡ words) }

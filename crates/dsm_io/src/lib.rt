@@ -3,6 +3,7 @@
 
 pub mod memory_sink;
 pub mod memory_source;
+pub mod null_sink;
 mod planned;
 pub mod reading;
 pub mod sink;
@@ -14,6 +15,7 @@ pub mod writing;
 
 pub use memory_sink::MemSink;
 pub use memory_source::MemSource;
+pub use null_sink::NullSink;
 pub use reading::{ReadErr, read_all};
 pub use sink::Sink;
 pub use source::{Failed, Source};

@@ -1,4 +1,4 @@
-use crate::{Failed, MemSink, MemSource, ReadErr, SureSource, read_all, write_all};
+use crate::{Failed, MemSink, MemSource, NullSink, ReadErr, Sink, SureSource, read_all, write_all};
 use std::test::Fail;
 
 const TEN: [u8; 10] = [10, 11, 12, 13, 14, 15, 16, 17, 18, 19];
@@ -64,6 +64,16 @@ fn writes_all_or_a_prefix(rt: HostRuntime) -> Result<(), Fail> {
         );
     }
     Ok(())
+}
+
+// Whole pieces, also an empty one, and an end.
+#[test]
+fn a_null_sink_takes_all(rt: HostRuntime) {
+    let mut sink = NullSink::new();
+    assert_eq!(rt; sink.write(&TEN), Ok(10));
+    assert_eq!(rt; sink.write(&[]), Ok(0));
+    assert_eq!(rt; write_all(&mut sink, &TEN), Ok(()));
+    assert_eq!(rt; sink.finish(), Ok(()));
 }
 
 #[test]

@@ -1,5 +1,5 @@
 -- Where the frames of a node stand.
-use Rattle.std.proofs.Common.{◌≡◌, ℕ, ◌+◌, ◌*◌, ◌/◌, ◌%◌, ◌<◌, ◌≤◌, sym, ap, ◌∙◌, subst, arith}
+use Rattle.std.proofs.Common.{◌≡◌, ℕ, ◌+◌, ◌*◌, ◌/◌, ◌%◌, ◌<◌, sym, ap, ◌∙◌, subst, arith}
 use Rattle.std.proofs.Math.Nat.{div-add-mod, mul_assoc, mul_comm, add-mul}
 use Rattle.std.proofs.lemmas.Nat.{mul-add-lt}
 use Rattle.dsm_words.specs.Place.{Lay, total}

@@ -21,7 +21,7 @@ use Rattle.dsm_words.specs.declared.item.Item.{Item}
 use Rattle.dsm_words.specs.declared.item.Item.TheVariants.{Stop, Nle}
 use Rattle.dsm_words.specs.Pages.{pages_in, take_from}
 use Rattle.dsm_words.specs.Place.{Lay, groups}
-use Rattle.dsm_words.specs.Script.{Get, is_open, left_unless}
+use Rattle.dsm_words.specs.Script.{Get}
 use Rattle.dsm_local.specs.declared.end.End.TheVariants.{Looked, Halted}
 use Rattle.dsm_protocol.specs.declared.head.Head.{Head}
 use Rattle.dsm_protocol.specs.declared.head.Head.TheVariants.{Looking as Waiting}
@@ -39,7 +39,7 @@ use Rattle.dsm_machine.specs.declared.closing.ClosingAt.TheVariants.{Held}
 use Rattle.dsm_machine.specs.declared.point.Next.TheVariants.{Release as Releasing, Closing, Try, Look as Looking}
 use Rattle.dsm_machine.specs.declared.machine.Machine.{Machine}
 use Rattle.dsm_machine.specs.declared.point.Point.TheVariants.{At}
-use Rattle.dsm_machine.specs.Machines.{spare_of, HasRoom}
+use Rattle.dsm_machine.specs.Machines.{told_of, HasRoom}
 use Rattle.dsm_machine.specs.Phases.{phase_job}
 use Rattle.dsm_machine.specs.Points.{next_job, tells_all}
 use Rattle.dsm_machine.specs.Releases.{signal_job}
@@ -51,13 +51,6 @@ with_room n some none = absurd (omega arith)
 -- before a turn is taken
 pub held_fault : (x : TakeTurn) (turn : TurnId) (p : ℕ) (f : Outcome → Job) → take_rest x ≡ take_script turn p → held_turn (phase_job (TakePhase x) f) ≡ None
 held_fault x turn p f is = ap (λ s. held_turn (call s (λ _. f Outcome.Nothing))) is
-
-pub held_trying : (x : TakeTurn) (f : Outcome → Job) → is_open (take_rest x) ≡ true → held_turn (phase_job (TakePhase x) f) ≡ None
-held_trying x f is = go x.over is
-  where
-    go : (b : Bool) → is_open (left_unless b (take_script x.turn x.p)) ≡ true → held_turn (call (left_unless b (take_script x.turn x.p)) (λ _. f Outcome.Nothing)) ≡ None
-    go true is = absurd (cc is)
-    go false is = refl
 
 pub held_acquire : (u : Who) (x : TakeTurn) (turn : TurnId) (p : ℕ) (next : Next) → take_rest x ≡ take_script turn p → held_turn (phase_job (TakePhase x) (next_job u next)) ≡ None
 held_acquire u x turn p next is = held_fault x turn p (next_job u next) is
@@ -133,6 +126,6 @@ on_err (Ok x) f h = tt
 on_err (Err e) f h = f h
 
 -- where a head's job begins there is room, if there was
-pub room_kept : (m n : Machine) (h : Head) → m.point ≡ At h → spare_of n ≡ spare_of m → HasRoom m → HasRoom n
-room_kept m n h at same (inl some) = inl (subst (λ k. 0 < k) (sym same) some)
+pub room_kept : (m n : Machine) (h : Head) → m.point ≡ At h → told_of n ≡ told_of m → HasRoom m → HasRoom n
+room_kept m n h at same (inl some) = inl (subst (λ t. 0 < t.spare) (sym same) some)
 room_kept m n h at same (inr tells) = absurd (cc (sym tells ∙ ap tells_all at))

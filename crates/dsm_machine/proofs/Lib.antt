@@ -8,5 +8,6 @@ pub mod Framing
 pub mod Holding
 pub mod Releasing
 pub mod Settled
+pub mod Spending
 pub mod Visiting
 pub mod Within

@@ -1,5 +1,6 @@
 -- The code's machine as a processor of the definitions.
-use Rattle.std.specs.Prelude.{◌≡◌, ◌⊎◌, ◌<◌, ℕ, true, List}
+use Rattle.std.specs.Prelude.{◌≡◌, ◌⊎◌, ◌+◌, ◌<◌, ◌≤◌, ℕ, true, List, length}
+use Rattle.dsm_entry.specs.Told.{Told}
 use Rattle.dsm_isa.specs.declared.instr.Instr.{Instr}
 use Rattle.dsm_words.specs.Place.{lay_of}
 use Rattle.dsm_machine.specs.declared.machine.Machine.{Machine}
@@ -24,6 +25,10 @@ seen m = record { own = own_of m; todo = job_at (who m) m.phase m.point }
 abbrev pub processor_in : Machine → List Instr → Processor
 processor_in m code = going_on (who m) code (seen m)
 
+-- its trace, with the room in it
+abbrev pub told_of : Machine → Told
+told_of m = m.trace
+
 -- for how many more entries there is room
 abbrev pub spare_of : Machine → ℕ
 spare_of m = m.trace.spare
@@ -31,3 +36,8 @@ spare_of m = m.trace.spare
 -- there is room for the entry of its next event, or it tells all others to stop, which has none
 abbrev pub HasRoom : Machine → Type 0
 HasRoom m = (0 < spare_of m) ⊎ (tells_all m.point ≡ true)
+
+-- what an event does to room: it takes that of one entry where it appends one, and none where it appends none
+pub record Spends (old new : Told) : Type 0 where
+  pub all : length new.list + new.spare ≡ length old.list + old.spare
+  pub one : old.spare ≤ new.spare + 1

@@ -1,4 +1,4 @@
-ghost use Rattle.std.specs.Prelude.{◌≡◌, ◌+◌, ◌*◌, ◌^◌, ◌<◌, true, None};
+ghost use Rattle.std.specs.Prelude.{◌≡◌, ◌+◌, ◌*◌, ◌^◌, ◌<◌, ◌≤◌, true, None};
 ghost use Rattle.dsm_protocol.specs.Jobs.{held_turn};
 ghost use Rattle.dsm_words.specs.Place.{lay_of};
 ghost use Rattle.dsm_machine.specs.Phases.{phase_lay};
@@ -8,8 +8,6 @@ mod beginning;
 mod dirty;
 mod ending;
 mod ops;
-#[cfg(test)]
-mod tests;
 mod working;
 
 use crate::any_phase::AnyPhase;
@@ -71,7 +69,7 @@ impl Machine {
     ghost use Rattle.dsm_protocol.specs.Jobs.{Begin, job_after};
     ghost use Rattle.dsm_protocol.specs.Laws.{IsLocal};
     ghost use Rattle.dsm_protocol.specs.Processors.{settled, new_processor, ending, next_op, after_answer, wanting, IsMade};
-    ghost use Rattle.dsm_machine.specs.Machines.{who, own_of, seen, processor_in, spare_of, HasRoom};
+    ghost use Rattle.dsm_machine.specs.Machines.{who, own_of, seen, processor_in, told_of, spare_of, HasRoom, Spends};
     ghost use Rattle.dsm_machine.specs.Phases.{phase_job, phase_open, noted};
     ghost use Rattle.dsm_machine.specs.Points.{next_job, next_register, next_address, next_page, next_home, next_node, next_number, nexts_of, next_slack, has_begun};
 
@@ -125,6 +123,20 @@ impl Machine {
         self.trace.reserve_one()
     }
 
+    /// Makes room for `count` entries. Where there is room for so many already, it takes no memory; where memory is not
+    /// got, the machine stays as it was, and had less room.
+    pub fn ready_for(&mut self, count: u64) -> Result<(), NoMemory>
+        ensures who { who self.new ≡ who self.old }
+        ensures same { seen self.new ≡ seen self.old }
+        ensures ok { OnOk result (count ≤ spare_of self.new) }
+        ensures err { OnErr result (spare_of self.new ≡ spare_of self.old) }
+        ensures full { OnErr result (spare_of self.old < count) }
+        ensures room { count ≤ spare_of self.old → IsOk result }
+        ensures spare { count ≤ spare_of self.old → spare_of self.new ≡ spare_of self.old }
+    {
+        self.trace.reserve(count)
+    }
+
     /// For the case that `ready` was refused: in place of its next operation it tells all others to stop. It takes no
     /// memory.
     pub fn starve(&mut self)
@@ -134,7 +146,7 @@ impl Machine {
         ensures starved { (code : List instruction) → processor_in self.new code ≡ wanting (who self.old) true (processor_in self.old code) }
         ensures made { (code : List instruction) → IsMade (who self.old) code (processor_in self.old code) → IsMade (who self.new) code (processor_in self.new code) }
         ensures room { HasRoom self.new }
-        ensures spare { spare_of self.new ≡ spare_of self.old }
+        ensures trace { told_of self.new ≡ told_of self.old }
     {
         self.point = Point::Stopping { end: End::NoMemory };
     }
@@ -150,7 +162,7 @@ impl Machine {
         ensures begun { seen self.new ≡ processor_in self.old code.now }
         ensures point { has_begun self.new.point ≡ true }
         ensures room { HasRoom self.old → HasRoom self.new }
-        ensures spare { spare_of self.new ≡ spare_of self.old }
+        ensures trace { told_of self.new ≡ told_of self.old }
     {
         if let Point::At { head } = self.point {
             self.begin_at(code, head);
@@ -177,6 +189,7 @@ impl Machine {
         requires room { HasRoom self.old }
         ensures who { who self.new ≡ who self.old }
         ensures event { processor_in self.new code.now ≡ after_answer (who self.old) code.now (processor_in self.old code.now) got }
+        ensures spends { Spends (told_of self.old) (told_of self.new) }
         // Where all earlier calls had this code, its trace and end are those of a plain reader.
         ensures made { IsMade (who self.old) code.now (processor_in self.old code.now) → IsMade (who self.new) code.now (processor_in self.new code.now) }
         ensures local { IsMade (who self.old) code.now (processor_in self.old code.now) → IsLocal (who self.new) code.now (processor_in self.new code.now) }
@@ -185,24 +198,28 @@ impl Machine {
     }
 
     /// Takes the answer of the next operation.
+    #[tactic(auto, using(crate::proofs::Spending::spends_behind_none))]
     fn take_answer(&mut self, code: &Code, got: u64)
         requires objects { ObjectsInside (sizes_in (who self.old).lay) code.now }
         requires runs { ending (seen self.old) ≡ None }
         requires room { HasRoom self.old }
         ensures who { who self.new ≡ who self.old }
         ensures event { processor_in self.new code.now ≡ after_answer (who self.old) code.now (processor_in self.old code.now) got }
+        ensures spends { Spends self.old.trace self.new.trace }
     {
         self.begin(code);
         self.answer(got);
     }
 
     /// Takes the answer of the operation before which it stands.
+    #[tactic(auto, using(crate::proofs::Spending::spends_none))]
     fn answer(&mut self, got: u64)
         requires begun { has_begun self.old.point ≡ true }
         requires runs { ending (seen self.old) ≡ None }
         requires room { HasRoom self.old }
         ensures who { who self.new ≡ who self.old }
         ensures seen { seen self.new ≡ settled (own_of self.old) (job_after (seen self.old).todo got) }
+        ensures spends { Spends self.old.trace self.new.trace }
     {
         match self.point {
             Point::Accessing { access } => self.accessed(access, got),
@@ -241,6 +258,7 @@ impl Machine {
         requires room { 0 < spare_of self.old }
         ensures who { who self.new ≡ who self.old }
         ensures seen { seen self.new ≡ settled (own_of self.old) (phase_job phase (next_job (who self.old) next)) }
+        ensures trace { self.new.trace ≡ self.old.trace }
     {
         self.phase = phase;
         self.point = Point::Working { next };
@@ -263,18 +281,20 @@ impl Machine {
         ensures who { who self.new ≡ who self.old }
         ensures seen { seen self.new ≡ settled (own_of self.old) (phase_job phase (next_job (who self.old) next)) }
         ensures begun { has_begun self.new.point ≡ true }
-        ensures spare { spare_of self.new ≡ spare_of self.old }
+        ensures trace { self.new.trace ≡ self.old.trace }
     {
         self.phase = phase;
         self.point = Point::Working { next };
     }
 
     /// Takes an answer within a phase.
+    #[tactic(auto, using(crate::proofs::Spending::spends_none, crate::proofs::Spending::spends_behind_none))]
     fn work(&mut self, next: Next, got: u64)
         requires at { self.old.point ≡ Point.Working next }
         requires room { 0 < spare_of self.old }
         ensures who { who self.new ≡ who self.old }
         ensures seen { seen self.new ≡ settled (own_of self.old) (job_after (seen self.old).todo got) }
+        ensures spends { Spends self.old.trace self.new.trace }
     {
         self.count_notice();
         if let Turn::Done(out) = self.phase.after(got) {
@@ -292,7 +312,7 @@ impl Machine {
         ensures phase { self.new.phase ≡ self.old.phase }
         ensures point { self.new.point ≡ self.old.point }
         ensures reader { self.new.reader ≡ self.old.reader }
-        ensures spare { spare_of self.new ≡ spare_of self.old }
+        ensures trace { self.new.trace ≡ self.old.trace }
     {
         if self.phase.is_posting() {
             self.counts.notices = self.counts.notices.wrapping_add(1);
@@ -323,14 +343,6 @@ impl Machine {
         ensures { result ≡ (seen self.now).own.reader.done }
     {
         self.reader.done
-    }
-
-    /// What it did so far. It takes no memory.
-    pub fn trace(&self) -> &Trace
-        ensures list { result.now.list ≡ (seen self.now).own.trace }
-        ensures spare { result.now.spare ≡ spare_of self.now }
-    {
-        &self.trace
     }
 
     /// The trace of a machine that is no longer wanted. It takes no memory.

@@ -8,9 +8,7 @@ ghost use Rattle.dsm_core.specs.States.{setup_of, setup_in, cluster_in, IsFor};
 ghost use Rattle.dsm_meta.specs.Facts.{SyncIsLegal, OwnMaps, TurnHolders, SomeGoesOn, SparesMappings, HomeFixed};
 ghost use Rattle.dsm_meta.specs.Following.{Followed, HoldsIn};
 
-#[cfg(test)]
-mod tests;
-
+use crate::follow::follow;
 use dsm_core::state::State;
 use dsm_entry::entry::NoMemory;
 use dsm_isa::program::Program;
@@ -65,8 +63,6 @@ pub fn pages_after(
     ensures fresh { IfOk result (λ st. HoldsIn FreshCopies program.now st) }
 {
     let mut state = State::start(alloc, program, t, limits)?;
-    for p in schedule {
-        state.step(program, *p);
-    }
+    follow(&mut state, program, schedule);
     Ok(state)
 }

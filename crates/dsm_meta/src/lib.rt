@@ -2,4 +2,5 @@
 #![tactic(auto)]
 
 pub mod after;
+pub mod follow;
 pub mod loose;

@@ -1,3 +1,2 @@
 pub mod PageLines
 pub mod Printed
-pub mod Silence

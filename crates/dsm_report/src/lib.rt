@@ -8,8 +8,6 @@ mod pages;
 mod races;
 pub mod reporting;
 pub mod summing;
-#[cfg(test)]
-mod tests;
 mod traces;
 
 pub use dsm_list::listing::shape_text;

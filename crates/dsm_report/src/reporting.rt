@@ -41,7 +41,7 @@ pub fn text(
 
 /// The report, where it is told of each word whether it is not ordered.
 #[tactic(auto, unfolding(crate::specs::Report::report))]
-pub(crate) fn report_with(
+fn report_with(
     alloc: Global,
     t: Topology,
     program: &Program,

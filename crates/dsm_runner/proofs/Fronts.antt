@@ -8,6 +8,10 @@ abbrev pub AreFrom : {A : Type 0} → (ℕ → A → Type 0) → ℕ → List A 
 AreFrom {A = A} P n xs = (j : ℕ) (x : A) → slice_get xs j ≡ Some x → P (n + j) x
 
 module _ {A : Type 0} (P : ℕ → A → Type 0) where
+  -- all are those from the first number on
+  pub all_are : (xs : List A) → ((n : ℕ) (x : A) → slice_get xs n ≡ Some x → P n x) → AreFrom P 0 xs
+  all_are xs are j x at = subst (λ m. P m x) (let z : j ≡ 0 + j = omega arith in z) (are j x at)
+
   -- the first one
   pub front_is : (xs rest : List A) (x : A) (n : ℕ) → xs ≡ x ∷ rest → AreFrom P n xs → P n x
   front_is xs rest x n is are = subst (λ m. P m x) (let z : n + 0 ≡ n = omega arith in z) (are 0 x (ap (λ l. slice_get l 0) is))

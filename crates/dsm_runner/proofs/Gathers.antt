@@ -1,5 +1,5 @@
 -- The first seat takes in the others.
-use Rattle.std.proofs.Common.{◌≡◌, ℕ, suc, ◌+◌, List, [], ◌∷◌, ◌++◌, length, Some, refl, sym, ap, subst, inl, inr, arith, ◌∙◌, ◌⊎◌, zero}
+use Rattle.std.proofs.Common.{◌≡◌, ℕ, suc, List, [], ◌∷◌, ◌++◌, length, Some, refl, sym, ap, subst, inl, inr, ◌∙◌, ◌⊎◌, zero}
 use Rattle.std.specs.Prelude.{slice_get}
 use Rattle.dsm_flat.proofs.Lists.{get_push, get_push_old, get_push_new}
 use Rattle.dsm_machine.specs.declared.machine.Machine.{Machine}
@@ -8,11 +8,8 @@ use Rattle.dsm_protocol.specs.Processors.{Given}
 use Rattle.dsm_runs.specs.Setups.{Setup, who_at}
 use Rattle.dsm_runs.proofs.Lists.{some_one}
 use Rattle.dsm_runner.specs.Sights.{Sight, full_sight, processor_at}
-use Rattle.dsm_runner.specs.Helds.{Board}
 use Rattle.dsm_runner.specs.Holds.{IsHeld}
 use Rattle.dsm_runner.specs.Machines.{IsMachine, AreGiven, joined_sight}
-use Rattle.dsm_runner.specs.Workers.{IsWorker, AreWorkers, AreRest}
-use Rattle.dsm_runner.specs.declared.worker.Worker.{Worker}
 use Rattle.dsm_runner.specs.declared.worker.Worker.TheInside.{Inside}
 
 -- the first seat, before it takes in any
@@ -22,23 +19,6 @@ first_shape s p given v e n = e ∙ ap (λ q. full_sight s q given) n
 -- it is told by what it knows
 pub shape_of : (s : Setup) (given : List Given) (all : List (List Given)) (v : Sight) → v ≡ joined_sight s (given ∷ all) → v ≡ joined_sight s (v.given ∷ v.joined)
 shape_of s given all v e = e ∙ (λ i. joined_sight s ((sym e i).given ∷ (sym e i).joined))
-
--- the workers after the first
-pub others_are : (b : Board) (ws rest : List Worker) (w : Worker) (n : ℕ) → ws ≡ w ∷ rest → AreWorkers b ws → n ≡ 0 → AreRest b (suc n) rest
-others_are b ws rest w n e are z j u h =
-    let is = are.each (suc j) u (ap (λ l. slice_get l (suc j)) e ∙ h) in
-    record { table = is.table; setup = is.setup; number = is.number ∙ (let q : suc j ≡ suc n + j = omega arith in q) }
-
--- the workers after the next one
-pub fewer_are : (b : Board) (ws rest : List Worker) (w : Worker) (n m : ℕ) → ws ≡ w ∷ rest → AreRest b n ws → m ≡ suc n → AreRest b m rest
-fewer_are b ws rest w n m e are z j u h =
-    let is = are (suc j) u (ap (λ l. slice_get l (suc j)) e ∙ h) in
-    record { table = is.table; setup = is.setup; number = is.number ∙ (let q : n + suc j ≡ m + j = omega arith in q) }
-
--- and the next one
-pub next_is : (b : Board) (ws rest : List Worker) (w : Worker) (n : ℕ) → ws ≡ w ∷ rest → AreRest b n ws → IsWorker b n w
-next_is b ws rest w n e are =
-    let is = are 0 w (ap (λ l. slice_get l 0) e) in record { table = is.table; setup = is.setup; number = is.number ∙ (let q : n + 0 ≡ n = omega arith in q) }
 
 -- a worker's machine is that of its processor
 pub machine_is : (s : Setup) (p : ℕ) (w : Inside) → IsHeld w → w.seat.me.0.setup ≡ s → w.seat.me.0.number ≡ p → IsMachine s p w.seat.me.0.given w.machine

@@ -8,7 +8,5 @@ mod open;
 pub mod rule;
 pub mod run;
 pub mod shared;
-#[cfg(test)]
-mod tests;
 pub mod view;
 pub mod worker;

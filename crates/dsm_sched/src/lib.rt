@@ -3,5 +3,3 @@
 
 pub mod kind;
 pub mod simulation;
-#[cfg(test)]
-mod tests;

@@ -8,6 +8,4 @@ pub mod planning;
 pub mod plans;
 pub mod reading;
 pub mod refusal;
-#[cfg(test)]
-mod round_trip;
 pub mod top;

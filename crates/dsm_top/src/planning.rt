@@ -16,9 +16,6 @@ use dsm_protocol::limits::Limits;
 use dsm_sched::kind::Kind;
 use dsm_words::topology::Topology;
 
-#[cfg(test)]
-mod tests;
-
 /// What the settings among some words give.
 #[derive(Clone, Copy)]
 struct Given {

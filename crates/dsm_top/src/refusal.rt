@@ -5,9 +5,6 @@ use arrayvec::ArrayString;
 use dsm_grammar::fault::{AsmKind, Bound};
 use itoa::Buffer;
 
-#[cfg(test)]
-mod tests;
-
 /// Room for the one line of an answer that refuses.
 pub type Line = ArrayString<64>;
 

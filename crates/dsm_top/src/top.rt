@@ -22,9 +22,6 @@ use std::alloc::Global;
 use std::sync::Wait;
 use std::thread::Threads;
 
-#[cfg(test)]
-mod tests;
-
 /// How the top call ended.
 #[derive(Drop)]
 pub struct Done {

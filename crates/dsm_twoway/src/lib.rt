@@ -2,4 +2,5 @@
 #![tactic(auto)]
 
 pub mod after;
+pub mod after_start;
 pub mod laws;

@@ -1,5 +1,5 @@
 // One event of one machine.
-ghost use Rattle.std.specs.Prelude.{◌≡◌, None, List, IsTrue, length};
+ghost use Rattle.std.specs.Prelude.{◌≡◌, ◌+◌, ◌≤◌, None, List, IsTrue, length};
 ghost use Rattle.dsm_isa.specs.declared.instr.Instr.{Instr};
 ghost use Rattle.dsm_isa.specs.Rules.{ObjectsInside};
 ghost use Rattle.dsm_words.specs.Place.{total};
@@ -24,6 +24,7 @@ pub fn starves(machine: &mut Machine, code: &Code) -> bool
     ensures turn { IsTrue result → held_turn (processor_in machine.old code.now).todo ≡ None }
     ensures runs { ending (seen machine.new) ≡ None }
     ensures room { HasRoom machine.new }
+    ensures kept { spare_of machine.old ≤ spare_of machine.new }
 {
     machine.begin(code);
     wants(machine)
@@ -38,6 +39,7 @@ fn wants(machine: &mut Machine) -> bool
     ensures turn { IsTrue result → held_turn (seen machine.old).todo ≡ None }
     ensures runs { ending (seen machine.new) ≡ None }
     ensures room { HasRoom machine.new }
+    ensures kept { spare_of machine.old ≤ spare_of machine.new }
 {
     if machine.ready().is_ok() {
         return false;
@@ -55,6 +57,7 @@ pub(crate) fn act(words: &mut [u64], machine: &mut Machine, code: &Code)
     ensures who { who machine.new ≡ who machine.old }
     ensures words { words.new ≡ done (who machine.old).lay words.old (first_act (processor_in machine.old code.now).todo) }
     ensures event { processor_in machine.new code.now ≡ after_answer (who machine.old) code.now (processor_in machine.old code.now) (reply (who machine.old).lay words.old (first_act (processor_in machine.old code.now).todo)) }
+    ensures spends { spare_of machine.old ≤ spare_of machine.new + 1 }
 {
     let Some(op) = machine.next(code) else {
         unreachable!()

@@ -39,7 +39,7 @@ impl Machine {
         ensures who { who self.new ≡ who self.old }
         ensures seen { seen self.new ≡ begun (who self.old) code.now (own_of self.old) (Begin head) }
         ensures begun { has_begun self.new.point ≡ true }
-        ensures spare { spare_of self.new ≡ spare_of self.old }
+        ensures trace { self.new.trace ≡ self.old.trace }
     {
         match head {
             Head::Instruction => self.begin_instruction(code),
@@ -54,7 +54,7 @@ impl Machine {
         ensures who { who self.new ≡ who self.old }
         ensures seen { seen self.new ≡ begun (who self.old) code.now (own_of self.old) (Begin Head.Instruction) }
         ensures begun { has_begun self.new.point ≡ true }
-        ensures spare { spare_of self.new ≡ spare_of self.old }
+        ensures trace { self.new.trace ≡ self.old.trace }
     {
         let action = self.action(code);
         self.act(action);
@@ -68,7 +68,7 @@ impl Machine {
         ensures who { who self.new ≡ who self.old }
         ensures seen { seen self.new ≡ settled (own_of self.old) (action_job (who self.old) (own_of self.old) action) }
         ensures begun { has_begun self.new.point ≡ true }
-        ensures spare { spare_of self.new ≡ spare_of self.old }
+        ensures trace { self.new.trace ≡ self.old.trace }
     {
         match action {
             Action::Set { d, v } => {
@@ -120,7 +120,7 @@ impl Machine {
         ensures who { who self.new ≡ who self.old }
         ensures seen { seen self.new ≡ settled (own_of self.old) (access_job (who self.old) (own_of self.old) false w (made_job (who self.old) (Access.Load d w))) }
         ensures begun { has_begun self.new.point ≡ true }
-        ensures spare { spare_of self.new ≡ spare_of self.old }
+        ensures trace { self.new.trace ≡ self.old.trace }
     {
         let g = self.page(w);
         let m = self.maps[g as usize];
@@ -140,7 +140,7 @@ impl Machine {
         ensures who { who self.new ≡ who self.old }
         ensures seen { seen self.new ≡ settled (own_of self.old) (access_job (who self.old) (own_of self.old) true w (made_job (who self.old) (Access.Store w v))) }
         ensures begun { has_begun self.new.point ≡ true }
-        ensures spare { spare_of self.new ≡ spare_of self.old }
+        ensures trace { self.new.trace ≡ self.old.trace }
     {
         let g = self.page(w);
         let access = Access::Store { w, v };
@@ -161,7 +161,7 @@ impl Machine {
         ensures who { who self.new ≡ who self.old }
         ensures seen { seen self.new ≡ settled (own_of self.old) (fault_job (who self.old) (is_store access) (page_at (who self.old) access) (made_job (who self.old) access)) }
         ensures begun { has_begun self.new.point ≡ true }
-        ensures spare { spare_of self.new ≡ spare_of self.old }
+        ensures trace { self.new.trace ≡ self.old.trace }
     {
         let g = self.page(access.address());
         let take = TakeTurn::page(self.lay, self.node(), g, self.p);
@@ -182,7 +182,7 @@ impl Machine {
         ensures who { who self.new ≡ who self.old }
         ensures seen { seen self.new ≡ settled (own_of self.old) (release_job (who self.old) (signal_job (who self.old) signal)) }
         ensures begun { has_begun self.new.point ≡ true }
-        ensures spare { spare_of self.new ≡ spare_of self.old }
+        ensures trace { self.new.trace ≡ self.old.trace }
     {
         let draw = Draw::new(self.lay, self.node());
         let r = Release {
@@ -208,7 +208,7 @@ impl Machine {
         ensures who { who self.new ≡ who self.old }
         ensures seen { seen self.new ≡ settled (own_of self.old) (lock_job (who self.old) l) }
         ensures begun { has_begun self.new.point ≡ true }
-        ensures spare { spare_of self.new ≡ spare_of self.old }
+        ensures trace { self.new.trace ≡ self.old.trace }
     {
         let lock = LockTry::new(self.lay, l);
         self.start_free(AnyPhase::Lock(lock), Next::Try { l });
@@ -222,7 +222,7 @@ impl Machine {
         ensures who { who self.new ≡ who self.old }
         ensures seen { seen self.new ≡ settled (own_of self.old) (look_job (who self.old) of need) }
         ensures begun { has_begun self.new.point ≡ true }
-        ensures spare { spare_of self.new ≡ spare_of self.old }
+        ensures trace { self.new.trace ≡ self.old.trace }
     {
         let look = self.look(of, need);
         self.start_free(AnyPhase::Look(look), Next::Look { of, need });

@@ -48,7 +48,7 @@ pub(super) fn first_page(set: [u64; 4], from: u32, to: u32) -> Option<u32>
 
 impl Machine {
     ghost use Rattle.dsm_protocol.specs.Own.{joined, cleaned, soiled};
-    ghost use Rattle.dsm_machine.specs.Machines.{who, own_of, spare_of};
+    ghost use Rattle.dsm_machine.specs.Machines.{who, own_of};
 
     /// The pages of a set become dirty.
     pub(crate) fn join(&mut self, set: [u64; 4])
@@ -56,7 +56,7 @@ impl Machine {
         ensures own { own_of self.new ≡ joined (own_of self.old) set }
         ensures layout { self.new.lay ≡ self.old.lay }
         ensures reader { self.new.reader ≡ self.old.reader }
-        ensures spare { spare_of self.new ≡ spare_of self.old }
+        ensures trace { self.new.trace ≡ self.old.trace }
     {
         self.dirty = [
             self.dirty[0] | set[0],
@@ -73,7 +73,7 @@ impl Machine {
         ensures own { own_of self.new ≡ cleaned (own_of self.old) g }
         ensures layout { self.new.lay ≡ self.old.lay }
         ensures reader { self.new.reader ≡ self.old.reader }
-        ensures spare { spare_of self.new ≡ spare_of self.old }
+        ensures trace { self.new.trace ≡ self.old.trace }
     {
         self.dirty = without(self.dirty, g);
     }
@@ -85,7 +85,7 @@ impl Machine {
         ensures own { own_of self.new ≡ soiled (own_of self.old) g }
         ensures layout { self.new.lay ≡ self.old.lay }
         ensures reader { self.new.reader ≡ self.old.reader }
-        ensures spare { spare_of self.new ≡ spare_of self.old }
+        ensures trace { self.new.trace ≡ self.old.trace }
     {
         self.dirty = with(self.dirty, g);
     }

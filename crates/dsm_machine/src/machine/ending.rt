@@ -22,17 +22,19 @@ impl Machine {
     ghost use Rattle.dsm_protocol.specs.Steps.{next_instruction, heed_job, unready_job, tried_job, looked_job, need_of, acquire_job, closing_job};
     ghost use Rattle.dsm_protocol.specs.Processors.{settled};
     ghost use Rattle.dsm_machine.specs.Faults.{made_job, register_of};
-    ghost use Rattle.dsm_machine.specs.Machines.{who, own_of, seen, spare_of};
+    ghost use Rattle.dsm_machine.specs.Machines.{who, own_of, seen, spare_of, Spends};
     ghost use Rattle.dsm_machine.specs.Points.{head_number, heads_of, head_slack, has_begun};
     ghost use Rattle.dsm_machine.specs.Releases.{counter_slack, signalled, signal_number, signals_of, signal_slack};
 
     /// Appends an entry to the trace.
+    #[tactic(auto, using(crate::proofs::Spending::spends_one))]
     fn note(&mut self, e: Entry)
         requires { 0 < spare_of self.old }
         ensures who { who self.new ≡ who self.old }
         ensures own { own_of self.new ≡ record (own_of self.old) { trace = (own_of self.old).trace ++ e ∷ [] } }
         ensures layout { self.new.lay ≡ self.old.lay }
         ensures reader { self.new.reader ≡ self.old.reader }
+        ensures spends { Spends self.old.trace self.new.trace }
     {
         self.point = Point::At {
             head: Head::Instruction,
@@ -46,6 +48,7 @@ impl Machine {
         requires done { self.old.reader.done + 1 < 2 ^ 64 }
         ensures who { who self.new ≡ who self.old }
         ensures seen { seen self.new ≡ settled (own_of self.old) next_instruction }
+        ensures trace { self.new.trace ≡ self.old.trace }
     {
         self.point = Point::At {
             head: Head::Instruction,
@@ -60,6 +63,7 @@ impl Machine {
         requires done { self.old.reader.done + 1 < 2 ^ 64 }
         ensures who { who self.new ≡ who self.old }
         ensures seen { seen self.new ≡ settled (own_of self.old) (Mark (Give d v) (Begin Head.Instruction)) }
+        ensures trace { self.new.trace ≡ self.old.trace }
     {
         self.point = Point::At {
             head: Head::Instruction,
@@ -75,6 +79,7 @@ impl Machine {
         requires { self.old.reader.done + 1 < 2 ^ 64 }
         ensures who { who self.new ≡ who self.old }
         ensures seen { seen self.new ≡ settled (own_of self.old) (Mark (Go to) (Begin Head.Instruction)) }
+        ensures trace { self.new.trace ≡ self.old.trace }
     {
         self.point = Point::At {
             head: Head::Instruction,
@@ -83,18 +88,21 @@ impl Machine {
     }
 
     /// The number is printed.
+    #[tactic(auto, using(crate::proofs::Spending::spends_then_none))]
     pub(super) fn print(&mut self, v: u64)
         requires room { 0 < spare_of self.old }
         requires place { self.old.reader.place + 1 < 2 ^ 32 }
         requires done { self.old.reader.done + 1 < 2 ^ 64 }
         ensures who { who self.new ≡ who self.old }
         ensures seen { seen self.new ≡ settled (own_of self.old) (Mark (Append (Entry.Out v)) next_instruction) }
+        ensures spends { Spends self.old.trace self.new.trace }
     {
         self.note(Entry::Out { v });
         self.moved();
     }
 
     /// The load or store is made.
+    #[tactic(auto, using(crate::proofs::Spending::spends_one))]
     pub(super) fn accessed(&mut self, access: Access, got: u64)
         requires register { register_of access < 16 }
         requires room { 0 < spare_of self.old }
@@ -102,6 +110,7 @@ impl Machine {
         requires done { self.old.reader.done + 1 < 2 ^ 64 }
         ensures who { who self.new ≡ who self.old }
         ensures seen { seen self.new ≡ settled (own_of self.old) (job_after (made_job (who self.old) access) got) }
+        ensures spends { Spends self.old.trace self.new.trace }
     {
         self.point = Point::At {
             head: Head::Instruction,
@@ -128,6 +137,7 @@ impl Machine {
         requires done { self.old.reader.done + 1 < 2 ^ 64 + head_slack again }
         ensures who { who self.new ≡ who self.old }
         ensures seen { seen self.new ≡ settled (own_of self.old) (heed_job again got) }
+        ensures trace { self.new.trace ≡ self.old.trace }
     {
         if got == 0 {
             self.point = Point::At { head: again };
@@ -147,6 +157,7 @@ impl Machine {
         requires done { self.old.reader.done + 1 < 2 ^ 64 + head_slack again }
         ensures who { who self.new ≡ who self.old }
         ensures seen { seen self.new ≡ settled (own_of self.old) (unready_job (who self.old) again) }
+        ensures trace { self.new.trace ≡ self.old.trace }
     {
         let unready = self.counts.unready.wrapping_add(1);
         self.counts.unready = unready;
@@ -157,6 +168,7 @@ impl Machine {
     }
 
     /// A try of lock `l` has found this.
+    #[tactic(auto, using(crate::proofs::Spending::spends_none))]
     pub(super) fn tried(&mut self, l: u32, got: Got)
         requires room { 0 < spare_of self.old }
         requires lock { l < self.old.lay.locks }
@@ -164,6 +176,7 @@ impl Machine {
         requires done { self.old.reader.done + 1 < 2 ^ 64 }
         ensures who { who self.new ≡ who self.old }
         ensures seen { seen self.new ≡ settled (own_of self.old) (tried_job (who self.old) l got) }
+        ensures spends { Spends self.old.trace self.new.trace }
     {
         match got {
             Got::Ready { c } => self.pass_lock(l, c),
@@ -172,6 +185,7 @@ impl Machine {
     }
 
     /// Passes a lock.
+    #[tactic(auto, using(crate::proofs::Spending::spends_then_none))]
     fn pass_lock(&mut self, l: u32, c: u64)
         requires room { 0 < spare_of self.old }
         requires lock { l < self.old.lay.locks }
@@ -179,6 +193,7 @@ impl Machine {
         requires done { self.old.reader.done + 1 < 2 ^ 64 }
         ensures who { who self.new ≡ who self.old }
         ensures seen { seen self.new ≡ settled (own_of self.old) (tried_job (who self.old) l (Got.Ready c)) }
+        ensures spends { Spends self.old.trace self.new.trace }
     {
         self.note(Entry::Pass { o: Obj::Lock(l), c });
         self.reader.open(l, c);
@@ -186,6 +201,7 @@ impl Machine {
     }
 
     /// A look at an object has found this.
+    #[tactic(auto, using(crate::proofs::Spending::spends_none))]
     pub(super) fn looked(&mut self, of: Counter, need: u64, got: Got)
         requires room { 0 < spare_of self.old }
         requires object { counter_number of < counters_of (lay_of self.old.lay) of }
@@ -193,6 +209,7 @@ impl Machine {
         requires done { self.old.reader.done + 1 < 2 ^ 64 + counter_slack of }
         ensures who { who self.new ≡ who self.old }
         ensures seen { seen self.new ≡ settled (own_of self.old) (looked_job (who self.old) of need got) }
+        ensures spends { Spends self.old.trace self.new.trace }
     {
         match got {
             Got::Ready { c } => self.pass(of, need, c),
@@ -201,12 +218,14 @@ impl Machine {
     }
 
     /// Passes a barrier or a flag.
+    #[tactic(auto, using(crate::proofs::Spending::spends_then_none))]
     fn pass(&mut self, of: Counter, need: u64, c: u64)
         requires room { 0 < spare_of self.old }
         requires place { self.old.reader.place + 1 < 2 ^ 32 + counter_slack of }
         requires done { self.old.reader.done + 1 < 2 ^ 64 + counter_slack of }
         ensures who { who self.new ≡ who self.old }
         ensures seen { seen self.new ≡ settled (own_of self.old) (looked_job (who self.old) of need (Got.Ready c)) }
+        ensures spends { Spends self.old.trace self.new.trace }
     {
         let _asked = need;
         self.note(Entry::Pass {
@@ -227,6 +246,7 @@ impl Machine {
         requires done { self.old.reader.done + 1 < 2 ^ 64 }
         ensures who { who self.new ≡ who self.old }
         ensures seen { seen self.new ≡ settled (own_of self.old) (acquire_job (who self.old) next_instruction) }
+        ensures trace { self.new.trace ≡ self.old.trace }
     {
         let take = TakeTurn::notices(self.lay, self.node(), self.p);
         self.start_free(
@@ -247,6 +267,7 @@ impl Machine {
         requires done { self.old.reader.done + 1 < 2 ^ 64 + signal_slack signal }
         ensures who { who self.new ≡ who self.old }
         ensures seen { seen self.new ≡ settled (own_of self.old) (signalled (who self.old) signal out) }
+        ensures spends { Spends self.old.trace self.new.trace }
     {
         match signal {
             Signal::Free { l, k } => self.free(l, k),
@@ -256,24 +277,28 @@ impl Machine {
     }
 
     /// A flag was set, as set number `j`.
+    #[tactic(auto, using(crate::proofs::Spending::spends_then_none))]
     fn raised(&mut self, f: u32, j: u64)
         requires room { 0 < spare_of self.old }
         requires place { self.old.reader.place + 1 < 2 ^ 32 }
         requires done { self.old.reader.done + 1 < 2 ^ 64 }
         ensures who { who self.new ≡ who self.old }
         ensures seen { seen self.new ≡ settled (own_of self.old) (signalled (who self.old) (Signal.Raise f) (Outcome.Number j)) }
+        ensures spends { Spends self.old.trace self.new.trace }
     {
         self.note(Entry::Signal { o: Obj::Flag(f), j });
         self.moved();
     }
 
     /// The lock is given back.
+    #[tactic(auto, using(crate::proofs::Spending::spends_then_none))]
     fn free(&mut self, l: u32, k: u64)
         requires room { 0 < spare_of self.old }
         requires place { self.old.reader.place + 1 < 2 ^ 32 }
         requires done { self.old.reader.done + 1 < 2 ^ 64 }
         ensures who { who self.new ≡ who self.old }
         ensures seen { seen self.new ≡ settled (own_of self.old) (signalled (who self.old) (Signal.Free l k) Outcome.Nothing) }
+        ensures spends { Spends self.old.trace self.new.trace }
     {
         self.note(Entry::Signal {
             o: Obj::Lock(l),
@@ -291,6 +316,7 @@ impl Machine {
         requires done { self.old.reader.done + 1 < 2 ^ 64 + counter_slack of }
         ensures who { who self.new ≡ who self.old }
         ensures seen { seen self.new ≡ settled (own_of self.old) (signalled (who self.old) (Signal.Meet of) (Outcome.Number a)) }
+        ensures spends { Spends self.old.trace self.new.trace }
     {
         self.note(Entry::Signal {
             o: object_of(of),
@@ -316,6 +342,7 @@ impl Machine {
     fn close(&mut self)
         ensures who { who self.new ≡ who self.old }
         ensures seen { seen self.new ≡ settled (own_of self.old) (closing_job (who self.old) (Ended End.Halted)) }
+        ensures trace { self.new.trace ≡ self.old.trace }
     {
         if self.p == 0 {
             self.hold(0);

@@ -16,11 +16,12 @@ use crate::point::Next;
 impl Machine {
     ghost use Rattle.std.specs.Prelude.{IfSome};
     ghost use Rattle.dsm_protocol.specs.Processors.{settled};
-    ghost use Rattle.dsm_machine.specs.Machines.{who, own_of, seen, spare_of};
+    ghost use Rattle.dsm_machine.specs.Machines.{who, own_of, seen, spare_of, Spends};
     ghost use Rattle.dsm_machine.specs.Points.{next_job, next_register, next_address, next_page, next_home, next_node, next_number, nexts_of, next_slack};
     ghost use Rattle.dsm_machine.specs.Results.{node_in, holder_of};
 
     /// Takes the result of a phase.
+    #[tactic(auto, using(crate::proofs::Spending::spends_none))]
     pub(super) fn go_on(&mut self, next: Next, out: Outcome)
         requires register { next_register next < 16 }
         requires address { next_address next < self.old.lay.pages * self.old.lay.words }
@@ -35,6 +36,7 @@ impl Machine {
         requires room { 0 < spare_of self.old }
         ensures who { who self.new ≡ who self.old }
         ensures seen { seen self.new ≡ settled (own_of self.old) (next_job (who self.old) next out) }
+        ensures spends { Spends self.old.trace self.new.trace }
     {
         match next {
             Next::Fault { access, at } => self.fault_on(access, at, out),

@@ -30,6 +30,7 @@ impl Machine {
         requires room { 0 < spare_of self.old }
         ensures who { who self.new ≡ who self.old }
         ensures seen { seen self.new ≡ settled (own_of self.old) (acquire_next (who self.old) set g at out) }
+        ensures trace { self.new.trace ≡ self.old.trace }
     {
         match at {
             AcquireAt::NoticesTaken => self.drain_notices(),
@@ -52,6 +53,7 @@ impl Machine {
         requires room { 0 < spare_of self.old }
         ensures who { who self.new ≡ who self.old }
         ensures seen { seen self.new ≡ settled (own_of self.old) (drain_left (who self.old)) }
+        ensures trace { self.new.trace ≡ self.old.trace }
     {
         let drain = Drain::new(self.lay, self.node());
         self.start(
@@ -71,6 +73,7 @@ impl Machine {
         requires room { 0 < spare_of self.old }
         ensures who { who self.new ≡ who self.old }
         ensures seen { seen self.new ≡ settled (own_of self.old) (notices_left (who self.old)) }
+        ensures trace { self.new.trace ≡ self.old.trace }
     {
         let give = GiveTurn::notices(self.lay, self.node());
         self.start(
@@ -90,6 +93,7 @@ impl Machine {
         requires room { 0 < spare_of self.old }
         ensures who { who self.new ≡ who self.old }
         ensures seen { seen self.new ≡ settled (own_of self.old) (own_left (who self.old)) }
+        ensures trace { self.new.trace ≡ self.old.trace }
     {
         let own = TakeOwn::new(self.lay, self.p);
         self.start(
@@ -109,6 +113,7 @@ impl Machine {
         requires room { 0 < spare_of self.old }
         ensures who { who self.new ≡ who self.old }
         ensures seen { seen self.new ≡ settled (own_of self.old) (taken_all (who self.old) set) }
+        ensures trace { self.new.trace ≡ self.old.trace }
     {
         self.acquire_from(set, 0);
     }
@@ -121,6 +126,7 @@ impl Machine {
         requires room { 0 < spare_of self.old }
         ensures who { who self.new ≡ who self.old }
         ensures seen { seen self.new ≡ settled (own_of self.old) (taken_left (who self.old) set from) }
+        ensures trace { self.new.trace ≡ self.old.trace }
     {
         match self.next_mapped(set, from) {
             Some(g) => {
@@ -162,6 +168,7 @@ impl Machine {
         requires room { 0 < spare_of self.old }
         ensures who { who self.new ≡ who self.old }
         ensures seen { seen self.new ≡ settled (own_of self.old) (acquire_next (who self.old) set g AcquireAt.Taken Outcome.Nothing) }
+        ensures trace { self.new.trace ≡ self.old.trace }
     {
         let dir = MyDir::new(self.lay, self.node(), g);
         self.start(
@@ -182,6 +189,7 @@ impl Machine {
         requires room { 0 < spare_of self.old }
         ensures who { who self.new ≡ who self.old }
         ensures seen { seen self.new ≡ settled (own_of self.old) (acquire_next (who self.old) set g AcquireAt.Dir (Outcome.Number d)) }
+        ensures trace { self.new.trace ≡ self.old.trace }
     {
         if d == 2 {
             self.acquire_looked(set, g);
@@ -206,6 +214,7 @@ impl Machine {
         requires room { 0 < spare_of self.old }
         ensures who { who self.new ≡ who self.old }
         ensures seen { seen self.new ≡ settled (own_of self.old) (acquire_next (who self.old) set g AcquireAt.Checked (Outcome.Whether stale)) }
+        ensures trace { self.new.trace ≡ self.old.trace }
     {
         if stale {
             let map = SetMap::new(self.lay, self.p, g, 0);
@@ -230,6 +239,7 @@ impl Machine {
         requires room { 0 < spare_of self.old }
         ensures who { who self.new ≡ who self.old }
         ensures seen { seen self.new ≡ settled (own_of self.old) (acquire_next (who self.old) set g AcquireAt.Unmapped Outcome.Nothing) }
+        ensures trace { self.new.trace ≡ self.old.trace }
     {
         self.maps[g as usize] = 0;
         self.counts.unmaps = self.counts.unmaps.wrapping_add(1);
@@ -252,6 +262,7 @@ impl Machine {
         requires room { 0 < spare_of self.old }
         ensures who { who self.new ≡ who self.old }
         ensures seen { seen self.new ≡ settled (own_of self.old) (looked_at (who self.old) set g) }
+        ensures trace { self.new.trace ≡ self.old.trace }
     {
         let give = GiveTurn::page(self.lay, self.node(), g);
         self.start(

@@ -30,6 +30,7 @@ impl Machine {
         requires room { 0 < spare_of self.old }
         ensures who { who self.new ≡ who self.old }
         ensures seen { seen self.new ≡ settled (own_of self.old) (closing_next (who self.old) g m at out) }
+        ensures trace { self.new.trace ≡ self.old.trace }
     {
         match at {
             ClosingAt::Held => self.held(g, out.holder()),
@@ -47,6 +48,7 @@ impl Machine {
         requires { g ≤ self.old.lay.pages }
         ensures who { who self.new ≡ who self.old }
         ensures seen { seen self.new ≡ settled (own_of self.old) (closing_left (who self.old) g) }
+        ensures trace { self.new.trace ≡ self.old.trace }
     {
         if g < self.lay.pages {
             let holder = Holder::new(self.lay, g);
@@ -70,6 +72,7 @@ impl Machine {
         requires holder { IfSome holder (λ m. m < self.old.lay.t.nodes) }
         ensures who { who self.new ≡ who self.old }
         ensures seen { seen self.new ≡ settled (own_of self.old) (closing_page (who self.old) g holder (closing_left (who self.old) (g + 1))) }
+        ensures trace { self.new.trace ≡ self.old.trace }
     {
         match holder {
             Some(m) => {
@@ -94,6 +97,7 @@ impl Machine {
         requires room { 0 < spare_of self.old }
         ensures who { who self.new ≡ who self.old }
         ensures seen { seen self.new ≡ settled (own_of self.old) (closing_next (who self.old) g m ClosingAt.Taken Outcome.Nothing) }
+        ensures trace { self.new.trace ≡ self.old.trace }
     {
         let dir = MyDir::new(self.lay, m, g);
         self.start(
@@ -113,6 +117,7 @@ impl Machine {
         requires room { 0 < spare_of self.old }
         ensures who { who self.new ≡ who self.old }
         ensures seen { seen self.new ≡ settled (own_of self.old) (closing_next (who self.old) g m ClosingAt.Dir (Outcome.Number d)) }
+        ensures trace { self.new.trace ≡ self.old.trace }
     {
         if d == 2 {
             let home = FindHome::new(self.lay, self.node(), g);
@@ -138,6 +143,7 @@ impl Machine {
         requires room { 0 < spare_of self.old }
         ensures who { who self.new ≡ who self.old }
         ensures seen { seen self.new ≡ settled (own_of self.old) (closing_next (who self.old) g m ClosingAt.Home (Outcome.Node h)) }
+        ensures trace { self.new.trace ≡ self.old.trace }
     {
         let breaking = self.breaking(m, g, h);
         self.start(
@@ -157,6 +163,7 @@ impl Machine {
         requires room { 0 < spare_of self.old }
         ensures who { who self.new ≡ who self.old }
         ensures seen { seen self.new ≡ settled (own_of self.old) (closing_next (who self.old) g m ClosingAt.Broken Outcome.Nothing) }
+        ensures trace { self.new.trace ≡ self.old.trace }
     {
         self.counts.breaks = self.counts.breaks.wrapping_add(1);
         self.give_held(g, m);
@@ -169,6 +176,7 @@ impl Machine {
         requires room { 0 < spare_of self.old }
         ensures who { who self.new ≡ who self.old }
         ensures seen { seen self.new ≡ settled (own_of self.old) (closing_over (who self.old) g m) }
+        ensures trace { self.new.trace ≡ self.old.trace }
     {
         let give = GiveTurn::page(self.lay, m, g);
         self.start(

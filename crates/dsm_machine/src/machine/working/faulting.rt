@@ -57,6 +57,7 @@ impl Machine {
         requires room { 0 < spare_of self.old }
         ensures who { who self.new ≡ who self.old }
         ensures seen { seen self.new ≡ settled (own_of self.old) (alone_job (who self.old) (is_store access) (page_at (who self.old) access) (made_job (who self.old) access)) }
+        ensures trace { self.new.trace ≡ self.old.trace }
     {
         let g = self.page(access.address());
         let map = SetMap::new(self.lay, self.p, g, u64::from(allowing(access)));
@@ -78,6 +79,7 @@ impl Machine {
         requires room { 0 < spare_of self.old }
         ensures who { who self.new ≡ who self.old }
         ensures seen { seen self.new ≡ settled (own_of self.old) (shared_job (who self.old) (is_store access) (page_at (who self.old) access) (made_job (who self.old) access)) }
+        ensures trace { self.new.trace ≡ self.old.trace }
     {
         let g = self.page(access.address());
         let map = SetMap::new(self.lay, self.p, g, u64::from(allowing(access)));
@@ -98,6 +100,7 @@ impl Machine {
         requires room { 0 < spare_of self.old }
         ensures who { who self.new ≡ who self.old }
         ensures seen { seen self.new ≡ settled (own_of self.old) (ready_job (who self.old) true (page_of (who self.old) w) (store_job (who self.old) w v)) }
+        ensures trace { self.new.trace ≡ self.old.trace }
     {
         let has = HasTwin::new(self.lay, self.node(), self.page(w));
         self.start(
@@ -119,6 +122,7 @@ impl Machine {
         requires room { 0 < spare_of self.old }
         ensures who { who self.new ≡ who self.old }
         ensures seen { seen self.new ≡ settled (own_of self.old) (ready_job (who self.old) (is_store access) (page_at (who self.old) access) (made_job (who self.old) access)) }
+        ensures trace { self.new.trace ≡ self.old.trace }
     {
         match access {
             Access::Load { d: _, w: _ } => self.shared(access),
@@ -136,6 +140,7 @@ impl Machine {
         requires room { 0 < spare_of self.old }
         ensures who { who self.new ≡ who self.old }
         ensures seen { seen self.new ≡ settled (own_of self.old) (share_job (who self.old) (is_store access) (page_at (who self.old) access) h (made_job (who self.old) access)) }
+        ensures trace { self.new.trace ≡ self.old.trace }
     {
         if self.node() == h {
             self.shared(access);
@@ -161,6 +166,7 @@ impl Machine {
         requires room { 0 < spare_of self.old }
         ensures who { who self.new ≡ who self.old }
         ensures seen { seen self.new ≡ settled (own_of self.old) (fault_next (who self.old) access FaultAt.Taken Outcome.Nothing) }
+        ensures trace { self.new.trace ≡ self.old.trace }
     {
         let g = self.page(access.address());
         let dir = MyDir::new(self.lay, self.node(), g);
@@ -182,6 +188,7 @@ impl Machine {
         requires room { 0 < spare_of self.old }
         ensures who { who self.new ≡ who self.old }
         ensures seen { seen self.new ≡ settled (own_of self.old) (fault_next (who self.old) access FaultAt.Dir (Outcome.Number d)) }
+        ensures trace { self.new.trace ≡ self.old.trace }
     {
         if d == 2 {
             self.alone(access);
@@ -208,6 +215,7 @@ impl Machine {
         requires room { 0 < spare_of self.old }
         ensures who { who self.new ≡ who self.old }
         ensures seen { seen self.new ≡ settled (own_of self.old) (fault_next (who self.old) access (FaultAt.Home d) (Outcome.Node h)) }
+        ensures trace { self.new.trace ≡ self.old.trace }
     {
         if d != 0 {
             self.look_round(access, h);
@@ -234,6 +242,7 @@ impl Machine {
         requires room { 0 < spare_of self.old }
         ensures who { who self.new ≡ who self.old }
         ensures seen { seen self.new ≡ settled (own_of self.old) (look_round_job (who self.old) (is_store access) (page_at (who self.old) access) h (made_job (who self.old) access)) }
+        ensures trace { self.new.trace ≡ self.old.trace }
     {
         let g = self.page(access.address());
         let sharers = Sharers::new(self.lay, self.node(), g);
@@ -256,6 +265,7 @@ impl Machine {
         requires room { 0 < spare_of self.old }
         ensures who { who self.new ≡ who self.old }
         ensures seen { seen self.new ≡ settled (own_of self.old) (fault_next (who self.old) access (FaultAt.Looked h) (Outcome.Row row)) }
+        ensures trace { self.new.trace ≡ self.old.trace }
     {
         if row.busy == 0 {
             self.settle(access, h, row.others);
@@ -274,6 +284,7 @@ impl Machine {
         requires room { 0 < spare_of self.old }
         ensures who { who self.new ≡ who self.old }
         ensures seen { seen self.new ≡ settled (own_of self.old) (if is_store access && not others then sole_job (who self.old) (page_at (who self.old) access) h (made_job (who self.old) access) else share_job (who self.old) (is_store access) (page_at (who self.old) access) h (made_job (who self.old) access)) }
+        ensures trace { self.new.trace ≡ self.old.trace }
     {
         if others {
             self.share(access, h);
@@ -292,6 +303,7 @@ impl Machine {
         requires room { 0 < spare_of self.old }
         ensures who { who self.new ≡ who self.old }
         ensures seen { seen self.new ≡ settled (own_of self.old) (if is_store access then sole_job (who self.old) (page_at (who self.old) access) h (made_job (who self.old) access) else share_job (who self.old) (is_store access) (page_at (who self.old) access) h (made_job (who self.old) access)) }
+        ensures trace { self.new.trace ≡ self.old.trace }
     {
         match access {
             Access::Load { d: _, w: _ } => self.share(access, h),
@@ -309,6 +321,7 @@ impl Machine {
         requires room { 0 < spare_of self.old }
         ensures who { who self.new ≡ who self.old }
         ensures seen { seen self.new ≡ settled (own_of self.old) (busy_job (who self.old) (is_store access) (page_at (who self.old) access) h busy (made_job (who self.old) access)) }
+        ensures trace { self.new.trace ≡ self.old.trace }
     {
         let g = self.page(access.address());
         if self.maps[g as usize] != 0 {
@@ -335,6 +348,7 @@ impl Machine {
         requires room { 0 < spare_of self.old }
         ensures who { who self.new ≡ who self.old }
         ensures seen { seen self.new ≡ settled (own_of self.old) (fault_next (who self.old) access (FaultAt.Wanted h busy) Outcome.Nothing) }
+        ensures trace { self.new.trace ≡ self.old.trace }
     {
         let g = self.page(access.address());
         self.maps[g as usize] = 3;
@@ -351,6 +365,7 @@ impl Machine {
         requires room { 0 < spare_of self.old }
         ensures who { who self.new ≡ who self.old }
         ensures seen { seen self.new ≡ settled (own_of self.old) (leave_job (who self.old) (is_store access) (page_at (who self.old) access) h busy (made_job (who self.old) access)) }
+        ensures trace { self.new.trace ≡ self.old.trace }
     {
         let g = self.page(access.address());
         let give = GiveTurn::page(self.lay, self.node(), g);
@@ -373,6 +388,7 @@ impl Machine {
         requires room { 0 < spare_of self.old }
         ensures who { who self.new ≡ who self.old }
         ensures seen { seen self.new ≡ settled (own_of self.old) (round_job (who self.old) access h) }
+        ensures trace { self.new.trace ≡ self.old.trace }
     {
         let g = self.page(access.address());
         let take = TakeTurn::page(self.lay, self.node(), g, self.p);
@@ -395,6 +411,7 @@ impl Machine {
         requires room { 0 < spare_of self.old }
         ensures who { who self.new ≡ who self.old }
         ensures seen { seen self.new ≡ settled (own_of self.old) (fault_next (who self.old) access (FaultAt.Retaken h) Outcome.Nothing) }
+        ensures trace { self.new.trace ≡ self.old.trace }
     {
         let g = self.page(access.address());
         let dir = MyDir::new(self.lay, self.node(), g);
@@ -417,6 +434,7 @@ impl Machine {
         requires room { 0 < spare_of self.old }
         ensures who { who self.new ≡ who self.old }
         ensures seen { seen self.new ≡ settled (own_of self.old) (fault_next (who self.old) access (FaultAt.Redir h) (Outcome.Number d)) }
+        ensures trace { self.new.trace ≡ self.old.trace }
     {
         if d == 2 {
             self.alone(access);
@@ -435,6 +453,7 @@ impl Machine {
         requires room { 0 < spare_of self.old }
         ensures who { who self.new ≡ who self.old }
         ensures seen { seen self.new ≡ settled (own_of self.old) (fault_next (who self.old) access (FaultAt.Checked h) (Outcome.Whether stale)) }
+        ensures trace { self.new.trace ≡ self.old.trace }
     {
         if !stale {
             self.ready_to_share(access);
@@ -460,6 +479,7 @@ impl Machine {
         requires room { 0 < spare_of self.old }
         ensures who { who self.new ≡ who self.old }
         ensures seen { seen self.new ≡ settled (own_of self.old) (fault_next (who self.old) access (FaultAt.FetchDrawn h) (Outcome.Number t)) }
+        ensures trace { self.new.trace ≡ self.old.trace }
     {
         let g = self.page(access.address());
         let has = HasTwin::new(self.lay, self.node(), g);
@@ -482,6 +502,7 @@ impl Machine {
         requires room { 0 < spare_of self.old }
         ensures who { who self.new ≡ who self.old }
         ensures seen { seen self.new ≡ settled (own_of self.old) (fault_next (who self.old) access (FaultAt.FetchTwin h t) (Outcome.Whether twin)) }
+        ensures trace { self.new.trace ≡ self.old.trace }
     {
         if twin {
             self.merge(access, h, t);
@@ -510,6 +531,7 @@ impl Machine {
         requires room { 0 < spare_of self.old }
         ensures who { who self.new ≡ who self.old }
         ensures seen { seen self.new ≡ settled (own_of self.old) (copy_job (who self.old) (page_at (who self.old) access) h true (updated_job (who self.old) (page_at (who self.old) access) t (ready_job (who self.old) (is_store access) (page_at (who self.old) access) (made_job (who self.old) access)))) }
+        ensures trace { self.new.trace ≡ self.old.trace }
     {
         let g = self.page(access.address());
         let merge = self.merge_from(g, h);
@@ -546,6 +568,7 @@ impl Machine {
         requires room { 0 < spare_of self.old }
         ensures who { who self.new ≡ who self.old }
         ensures seen { seen self.new ≡ settled (own_of self.old) (copy_job (who self.old) (page_at (who self.old) access) h false (updated_job (who self.old) (page_at (who self.old) access) t (ready_job (who self.old) (is_store access) (page_at (who self.old) access) (made_job (who self.old) access)))) }
+        ensures trace { self.new.trace ≡ self.old.trace }
     {
         let g = self.page(access.address());
         let overwrite = self.overwrite_from(g, h);
@@ -571,6 +594,7 @@ impl Machine {
         requires room { 0 < spare_of self.old }
         ensures who { who self.new ≡ who self.old }
         ensures seen { seen self.new ≡ settled (own_of self.old) (fault_next (who self.old) access (FaultAt.FetchCopied t merged) Outcome.Nothing) }
+        ensures trace { self.new.trace ≡ self.old.trace }
     {
         if merged {
             self.counts.merges = self.counts.merges.wrapping_add(1);
@@ -589,6 +613,7 @@ impl Machine {
         requires room { 0 < spare_of self.old }
         ensures who { who self.new ≡ who self.old }
         ensures seen { seen self.new ≡ settled (own_of self.old) (updated_job (who self.old) (page_at (who self.old) access) t (ready_job (who self.old) (is_store access) (page_at (who self.old) access) (made_job (who self.old) access))) }
+        ensures trace { self.new.trace ≡ self.old.trace }
     {
         let g = self.page(access.address());
         let stamp = Stamp::new(self.lay, Which::Update, self.node(), g, t);
@@ -610,6 +635,7 @@ impl Machine {
         requires room { 0 < spare_of self.old }
         ensures who { who self.new ≡ who self.old }
         ensures seen { seen self.new ≡ settled (own_of self.old) (fault_next (who self.old) access FaultAt.AloneMapped Outcome.Nothing) }
+        ensures trace { self.new.trace ≡ self.old.trace }
     {
         self.allow(access);
         self.give_back(access);
@@ -624,6 +650,7 @@ impl Machine {
         requires room { 0 < spare_of self.old }
         ensures who { who self.new ≡ who self.old }
         ensures seen { seen self.new ≡ settled (own_of self.old) (fault_next (who self.old) access FaultAt.SharedMapped Outcome.Nothing) }
+        ensures trace { self.new.trace ≡ self.old.trace }
     {
         self.allow(access);
         self.soil_for(access);
@@ -639,6 +666,7 @@ impl Machine {
         requires room { 0 < spare_of self.old }
         ensures who { who self.new ≡ who self.old }
         ensures seen { seen self.new ≡ settled (own_of self.old) (give_job (node_of (who self.old)) (page_at (who self.old) access) (made_job (who self.old) access)) }
+        ensures trace { self.new.trace ≡ self.old.trace }
     {
         let g = self.page(access.address());
         let give = GiveTurn::page(self.lay, self.node(), g);
@@ -658,7 +686,7 @@ impl Machine {
         ensures own { own_of self.new ≡ counted (mapped (own_of self.old) (page_at (who self.old) access) (wanted (is_store access))) (faults (is_store access)) }
         ensures layout { self.new.lay ≡ self.old.lay }
         ensures reader { self.new.reader ≡ self.old.reader }
-        ensures spare { spare_of self.new ≡ spare_of self.old }
+        ensures trace { self.new.trace ≡ self.old.trace }
     {
         let g = self.page(access.address());
         self.maps[g as usize] = allowing(access);
@@ -679,7 +707,7 @@ impl Machine {
         ensures own { (rest : Job) → settled (own_of self.old) (soil_job (is_store access) (page_at (who self.old) access) rest) ≡ settled (own_of self.new) rest }
         ensures layout { self.new.lay ≡ self.old.lay }
         ensures reader { self.new.reader ≡ self.old.reader }
-        ensures spare { spare_of self.new ≡ spare_of self.old }
+        ensures trace { self.new.trace ≡ self.old.trace }
     {
         if let Access::Store { w, v: _ } = access {
             let g = self.page(w);
@@ -696,6 +724,7 @@ impl Machine {
         requires room { 0 < spare_of self.old }
         ensures who { who self.new ≡ who self.old }
         ensures seen { seen self.new ≡ settled (own_of self.old) (made_job (who self.old) access) }
+        ensures trace { self.new.trace ≡ self.old.trace }
     {
         self.point = Point::Accessing { access };
     }
@@ -709,6 +738,7 @@ impl Machine {
         requires room { 0 < spare_of self.old }
         ensures who { who self.new ≡ who self.old }
         ensures seen { seen self.new ≡ settled (own_of self.old) (sole_job (who self.old) (page_of (who self.old) w) h (store_job (who self.old) w v)) }
+        ensures trace { self.new.trace ≡ self.old.trace }
     {
         let has = HasTwin::new(self.lay, self.node(), self.page(w));
         self.start(
@@ -733,6 +763,7 @@ impl Machine {
         requires room { 0 < spare_of self.old }
         ensures who { who self.new ≡ who self.old }
         ensures seen { seen self.new ≡ settled (own_of self.old) (fault_next (who self.old) access at out) }
+        ensures trace { self.new.trace ≡ self.old.trace }
     {
         match at {
             FaultAt::Taken => self.look_dir(access),

@@ -45,6 +45,7 @@ impl Machine {
         requires room { 0 < spare_of self.old }
         ensures who { who self.new ≡ who self.old }
         ensures seen { seen self.new ≡ settled (own_of self.old) (release_next (who self.old) r at out) }
+        ensures trace { self.new.trace ≡ self.old.trace }
     {
         match at {
             ReleaseAt::Drawn => self.drawn(r, out.number()),
@@ -74,6 +75,7 @@ impl Machine {
         requires room { 0 < spare_of self.old }
         ensures who { who self.new ≡ who self.old }
         ensures seen { seen self.new ≡ settled (own_of self.old) (release_next (who self.old) r ReleaseAt.Drawn (Outcome.Number t0)) }
+        ensures trace { self.new.trace ≡ self.old.trace }
     {
         let nle = TakeNle::new(self.lay, self.p);
         let r = Release {
@@ -98,6 +100,7 @@ impl Machine {
         requires room { 0 < spare_of self.old }
         ensures who { who self.new ≡ who self.old }
         ensures seen { seen self.new ≡ settled (own_of self.old) (release_next (who self.old) r ReleaseAt.Joined (Outcome.Pages set)) }
+        ensures trace { self.new.trace ≡ self.old.trace }
     {
         self.join(set);
         self.to_page(r.signal, r.t0, 0);
@@ -112,6 +115,7 @@ impl Machine {
         requires room { 0 < spare_of self.old }
         ensures who { who self.new ≡ who self.old }
         ensures seen { seen self.new ≡ settled (own_of self.old) (pages_left (who self.old) signal t0 from) }
+        ensures trace { self.new.trace ≡ self.old.trace }
     {
         match first_page(self.dirty, from, self.lay.pages) {
             Some(g) => {
@@ -137,6 +141,7 @@ impl Machine {
         requires room { 0 < spare_of self.old }
         ensures who { who self.new ≡ who self.old }
         ensures seen { seen self.new ≡ settled (own_of self.old) (signal_job (who self.old) signal) }
+        ensures trace { self.new.trace ≡ self.old.trace }
     {
         match signal {
             Signal::Free { l, k } => {
@@ -159,6 +164,7 @@ impl Machine {
         requires room { 0 < spare_of self.old }
         ensures who { who self.new ≡ who self.old }
         ensures seen { seen self.new ≡ settled (own_of self.old) (signal_job (who self.old) (Signal.Meet of)) }
+        ensures trace { self.new.trace ≡ self.old.trace }
     {
         let signal = Signal::Meet { of };
         let phase = match of {
@@ -178,6 +184,7 @@ impl Machine {
         requires room { 0 < spare_of self.old }
         ensures who { who self.new ≡ who self.old }
         ensures seen { seen self.new ≡ settled (own_of self.old) (release_next (who self.old) r ReleaseAt.Taken Outcome.Nothing) }
+        ensures trace { self.new.trace ≡ self.old.trace }
     {
         let dir = MyDir::new(self.lay, self.node(), r.g);
         self.start(
@@ -198,6 +205,7 @@ impl Machine {
         requires room { 0 < spare_of self.old }
         ensures who { who self.new ≡ who self.old }
         ensures seen { seen self.new ≡ settled (own_of self.old) (release_next (who self.old) r ReleaseAt.Dir (Outcome.Number d)) }
+        ensures trace { self.new.trace ≡ self.old.trace }
     {
         if d == 2 {
             self.done_page(r);
@@ -223,6 +231,7 @@ impl Machine {
         requires room { 0 < spare_of self.old }
         ensures who { who self.new ≡ who self.old }
         ensures seen { seen self.new ≡ settled (own_of self.old) (release_next (who self.old) r ReleaseAt.Home (Outcome.Node h)) }
+        ensures trace { self.new.trace ≡ self.old.trace }
     {
         let last = LastFlush::new(self.lay, self.node(), r.g);
         self.start(
@@ -244,6 +253,7 @@ impl Machine {
         requires room { 0 < spare_of self.old }
         ensures who { who self.new ≡ who self.old }
         ensures seen { seen self.new ≡ settled (own_of self.old) (release_next (who self.old) r (ReleaseAt.Last h) (Outcome.Number last)) }
+        ensures trace { self.new.trace ≡ self.old.trace }
     {
         if r.t0 < last {
             self.counts.early = self.counts.early.wrapping_add(1);
@@ -270,6 +280,7 @@ impl Machine {
         requires room { 0 < spare_of self.old }
         ensures who { who self.new ≡ who self.old }
         ensures seen { seen self.new ≡ settled (own_of self.old) (release_next (who self.old) r (ReleaseAt.Time h) (Outcome.Number t)) }
+        ensures trace { self.new.trace ≡ self.old.trace }
     {
         if self.node() == h {
             self.sent(r, h, t, false);
@@ -295,6 +306,7 @@ impl Machine {
         requires room { 0 < spare_of self.old }
         ensures who { who self.new ≡ who self.old }
         ensures seen { seen self.new ≡ settled (own_of self.old) (release_next (who self.old) r (ReleaseAt.Twin h t) (Outcome.Whether twin)) }
+        ensures trace { self.new.trace ≡ self.old.trace }
     {
         if twin {
             self.flush(r, h, t);
@@ -314,6 +326,7 @@ impl Machine {
         requires room { 0 < spare_of self.old }
         ensures who { who self.new ≡ who self.old }
         ensures seen { seen self.new ≡ settled (own_of self.old) (release_next (who self.old) r (ReleaseAt.Twin h t) (Outcome.Whether true)) }
+        ensures trace { self.new.trace ≡ self.old.trace }
     {
         let flush = Flush::new(self.lay.with_home(r.g, h), self.node(), r.g);
         self.start(
@@ -335,6 +348,7 @@ impl Machine {
         requires room { 0 < spare_of self.old }
         ensures who { who self.new ≡ who self.old }
         ensures seen { seen self.new ≡ settled (own_of self.old) (release_next (who self.old) r (ReleaseAt.Flushed h t) Outcome.Nothing) }
+        ensures trace { self.new.trace ≡ self.old.trace }
     {
         self.counts.flushes = self.counts.flushes.wrapping_add(1);
         self.sent(r, h, t, true);
@@ -350,6 +364,7 @@ impl Machine {
         requires room { 0 < spare_of self.old }
         ensures who { who self.new ≡ who self.old }
         ensures seen { seen self.new ≡ settled (own_of self.old) (sent_job (who self.old) r.g h t flushed (page_over (who self.old) r)) }
+        ensures trace { self.new.trace ≡ self.old.trace }
     {
         let stamp = Stamp::new(self.lay, Which::Flush, self.node(), r.g, t);
         self.start(
@@ -372,6 +387,7 @@ impl Machine {
         requires room { 0 < spare_of self.old }
         ensures who { who self.new ≡ who self.old }
         ensures seen { seen self.new ≡ settled (own_of self.old) (release_next (who self.old) r (ReleaseAt.Stamped h flushed) Outcome.Nothing) }
+        ensures trace { self.new.trace ≡ self.old.trace }
     {
         let post = Post::new(self.lay.with_home(r.g, h), self.node(), r.g);
         self.start(
@@ -392,6 +408,7 @@ impl Machine {
         requires room { 0 < spare_of self.old }
         ensures who { who self.new ≡ who self.old }
         ensures seen { seen self.new ≡ settled (own_of self.old) (lower_job (who self.old) r.g (drop_job (who self.old) r.g flushed (page_over (who self.old) r))) }
+        ensures trace { self.new.trace ≡ self.old.trace }
     {
         if self.maps[r.g as usize] == 2 {
             let map = SetMap::new(self.lay, self.p, r.g, 1);
@@ -416,6 +433,7 @@ impl Machine {
         requires room { 0 < spare_of self.old }
         ensures who { who self.new ≡ who self.old }
         ensures seen { seen self.new ≡ settled (own_of self.old) (release_next (who self.old) r (ReleaseAt.Lowered flushed) Outcome.Nothing) }
+        ensures trace { self.new.trace ≡ self.old.trace }
     {
         self.maps[r.g as usize] = 1;
         self.drop_twin(r, flushed);
@@ -430,6 +448,7 @@ impl Machine {
         requires room { 0 < spare_of self.old }
         ensures who { who self.new ≡ who self.old }
         ensures seen { seen self.new ≡ settled (own_of self.old) (drop_job (who self.old) r.g flushed (page_over (who self.old) r)) }
+        ensures trace { self.new.trace ≡ self.old.trace }
     {
         if flushed {
             let drop = DropTwin::new(self.lay, self.node(), r.g);
@@ -454,6 +473,7 @@ impl Machine {
         requires room { 0 < spare_of self.old }
         ensures who { who self.new ≡ who self.old }
         ensures seen { seen self.new ≡ settled (own_of self.old) (page_over (who self.old) r) }
+        ensures trace { self.new.trace ≡ self.old.trace }
     {
         let give = GiveTurn::page(self.lay, self.node(), r.g);
         self.start(
@@ -474,6 +494,7 @@ impl Machine {
         requires room { 0 < spare_of self.old }
         ensures who { who self.new ≡ who self.old }
         ensures seen { seen self.new ≡ settled (own_of self.old) (release_next (who self.old) r ReleaseAt.Given Outcome.Nothing) }
+        ensures trace { self.new.trace ≡ self.old.trace }
     {
         self.clean(r.g);
         self.to_page(r.signal, r.t0, r.g + 1);

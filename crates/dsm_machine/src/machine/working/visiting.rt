@@ -45,6 +45,7 @@ impl Machine {
         requires room { 0 < spare_of self.old }
         ensures who { who self.new ≡ who self.old }
         ensures seen { seen self.new ≡ settled (own_of self.old) (fault_next (who self.old) access (FaultAt.Left h busy) Outcome.Nothing) }
+        ensures trace { self.new.trace ≡ self.old.trace }
     {
         self.visit(access, h, busy, 0);
     }
@@ -60,6 +61,7 @@ impl Machine {
         requires room { 0 < spare_of self.old }
         ensures who { who self.new ≡ who self.old }
         ensures seen { seen self.new ≡ settled (own_of self.old) (visits_left (who self.old) access h busy m) }
+        ensures trace { self.new.trace ≡ self.old.trace }
     {
         match next_busy(busy, m, self.lay.t.nodes) {
             Some(next) => self.visit_node(access, h, busy, next),
@@ -78,6 +80,7 @@ impl Machine {
         requires room { 0 < spare_of self.old }
         ensures who { who self.new ≡ who self.old }
         ensures seen { seen self.new ≡ settled (own_of self.old) (visit_job (who self.old) m (page_at (who self.old) access) h (visits_left (who self.old) access h busy (m + 1))) }
+        ensures trace { self.new.trace ≡ self.old.trace }
     {
         let g = self.page(access.address());
         let take = TakeTurn::page(self.lay, m, g, self.p);
@@ -101,6 +104,7 @@ impl Machine {
         requires room { 0 < spare_of self.old }
         ensures who { who self.new ≡ who self.old }
         ensures seen { seen self.new ≡ settled (own_of self.old) (fault_next (who self.old) access (FaultAt.VisitTaken h busy m) Outcome.Nothing) }
+        ensures trace { self.new.trace ≡ self.old.trace }
     {
         let g = self.page(access.address());
         let dir = MyDir::new(self.lay, m, g);
@@ -124,6 +128,7 @@ impl Machine {
         requires room { 0 < spare_of self.old }
         ensures who { who self.new ≡ who self.old }
         ensures seen { seen self.new ≡ settled (own_of self.old) (fault_next (who self.old) access (FaultAt.VisitDir h busy m) (Outcome.Number d)) }
+        ensures trace { self.new.trace ≡ self.old.trace }
     {
         if d == 2 {
             self.break_page(access, h, busy, m);
@@ -154,6 +159,7 @@ impl Machine {
         requires room { 0 < spare_of self.old }
         ensures who { who self.new ≡ who self.old }
         ensures seen { seen self.new ≡ settled (own_of self.old) (break_job (who self.old) m (page_at (who self.old) access) h (visit_over (who self.old) access h busy m)) }
+        ensures trace { self.new.trace ≡ self.old.trace }
     {
         let g = self.page(access.address());
         let breaking = self.breaking(m, g, h);
@@ -177,6 +183,7 @@ impl Machine {
         requires room { 0 < spare_of self.old }
         ensures who { who self.new ≡ who self.old }
         ensures seen { seen self.new ≡ settled (own_of self.old) (fault_next (who self.old) access (FaultAt.VisitBroken h busy m) Outcome.Nothing) }
+        ensures trace { self.new.trace ≡ self.old.trace }
     {
         self.counts.breaks = self.counts.breaks.wrapping_add(1);
         self.end_visit(access, h, busy, m);
@@ -193,6 +200,7 @@ impl Machine {
         requires room { 0 < spare_of self.old }
         ensures who { who self.new ≡ who self.old }
         ensures seen { seen self.new ≡ settled (own_of self.old) (visit_over (who self.old) access h busy m) }
+        ensures trace { self.new.trace ≡ self.old.trace }
     {
         let g = self.page(access.address());
         let give = GiveTurn::page(self.lay, m, g);

@@ -31,6 +31,7 @@ impl Machine {
         requires room { 0 < spare_of self.old }
         ensures who { who self.new ≡ who self.old }
         ensures seen { seen self.new ≡ settled (own_of self.old) (write_next (who self.old) w v at out) }
+        ensures trace { self.new.trace ≡ self.old.trace }
     {
         match at {
             WriteAt::Sole { h } => self.sole(w, v, h, out.whether()),
@@ -55,6 +56,7 @@ impl Machine {
         requires room { 0 < spare_of self.old }
         ensures who { who self.new ≡ who self.old }
         ensures seen { seen self.new ≡ settled (own_of self.old) (write_next (who self.old) w v (WriteAt.Sole h) (Outcome.Whether twin)) }
+        ensures trace { self.new.trace ≡ self.old.trace }
     {
         if twin {
             self.share_store(w, v, h);
@@ -80,6 +82,7 @@ impl Machine {
         requires room { 0 < spare_of self.old }
         ensures who { who self.new ≡ who self.old }
         ensures seen { seen self.new ≡ settled (own_of self.old) (write_next (who self.old) w v (WriteAt.Claimed h) Outcome.Nothing) }
+        ensures trace { self.new.trace ≡ self.old.trace }
     {
         let sharers = Sharers::new(self.lay, self.node(), self.page(w));
         self.start(
@@ -101,6 +104,7 @@ impl Machine {
         requires room { 0 < spare_of self.old }
         ensures who { who self.new ≡ who self.old }
         ensures seen { seen self.new ≡ settled (own_of self.old) (write_next (who self.old) w v (WriteAt.Relooked h) (Outcome.Row row)) }
+        ensures trace { self.new.trace ≡ self.old.trace }
     {
         if !row.others {
             self.enter(w, v, h);
@@ -126,6 +130,7 @@ impl Machine {
         requires room { 0 < spare_of self.old }
         ensures who { who self.new ≡ who self.old }
         ensures seen { seen self.new ≡ settled (own_of self.old) (write_next (who self.old) w v (WriteAt.Withdrawn h) Outcome.Nothing) }
+        ensures trace { self.new.trace ≡ self.old.trace }
     {
         self.share(Access::Store { w, v }, h);
     }
@@ -139,6 +144,7 @@ impl Machine {
         requires room { 0 < spare_of self.old }
         ensures who { who self.new ≡ who self.old }
         ensures seen { seen self.new ≡ settled (own_of self.old) (enter_job (who self.old) (page_of (who self.old) w) h (store_job (who self.old) w v)) }
+        ensures trace { self.new.trace ≡ self.old.trace }
     {
         if self.node() == h {
             self.enter_here(w, v);
@@ -164,6 +170,7 @@ impl Machine {
         requires room { 0 < spare_of self.old }
         ensures who { who self.new ≡ who self.old }
         ensures seen { seen self.new ≡ settled (own_of self.old) (write_next (who self.old) w v (WriteAt.EnterDrawn h) (Outcome.Number t)) }
+        ensures trace { self.new.trace ≡ self.old.trace }
     {
         let n = self.node();
         let g = self.page(w);
@@ -186,6 +193,7 @@ impl Machine {
         requires room { 0 < spare_of self.old }
         ensures who { who self.new ≡ who self.old }
         ensures seen { seen self.new ≡ settled (own_of self.old) (write_next (who self.old) w v (WriteAt.EnterCopied t) Outcome.Nothing) }
+        ensures trace { self.new.trace ≡ self.old.trace }
     {
         self.counts.overwrites = self.counts.overwrites.wrapping_add(1);
         let stamp = Stamp::new(self.lay, Which::Update, self.node(), self.page(w), t);
@@ -207,6 +215,7 @@ impl Machine {
         requires room { 0 < spare_of self.old }
         ensures who { who self.new ≡ who self.old }
         ensures seen { seen self.new ≡ settled (own_of self.old) (entered_job (who self.old) (page_of (who self.old) w) (store_job (who self.old) w v)) }
+        ensures trace { self.new.trace ≡ self.old.trace }
     {
         let n = self.node();
         let g = self.page(w);
@@ -229,6 +238,7 @@ impl Machine {
         requires room { 0 < spare_of self.old }
         ensures who { who self.new ≡ who self.old }
         ensures seen { seen self.new ≡ settled (own_of self.old) (write_next (who self.old) w v WriteAt.Entered Outcome.Nothing) }
+        ensures trace { self.new.trace ≡ self.old.trace }
     {
         self.counts.enters = self.counts.enters.wrapping_add(1);
         self.alone(Access::Store { w, v });
@@ -242,6 +252,7 @@ impl Machine {
         requires room { 0 < spare_of self.old }
         ensures who { who self.new ≡ who self.old }
         ensures seen { seen self.new ≡ settled (own_of self.old) (write_next (who self.old) w v WriteAt.TwinFound (Outcome.Whether twin)) }
+        ensures trace { self.new.trace ≡ self.old.trace }
     {
         if twin {
             self.shared(Access::Store { w, v });
@@ -266,6 +277,7 @@ impl Machine {
         requires room { 0 < spare_of self.old }
         ensures who { who self.new ≡ who self.old }
         ensures seen { seen self.new ≡ settled (own_of self.old) (write_next (who self.old) w v WriteAt.TwinMade Outcome.Nothing) }
+        ensures trace { self.new.trace ≡ self.old.trace }
     {
         self.counts.twins = self.counts.twins.wrapping_add(1);
         self.shared(Access::Store { w, v });

@@ -11,7 +11,8 @@ use Rattle.dsm_runner.specs.Helds.{Held, Board}
 use Rattle.dsm_runner.specs.Workers.{IsWorker, given_to}
 use Rattle.dsm_runner.specs.declared.worker.Worker.{Worker}
 use Rattle.dsm_runner.proofs.Joins.{joins}
-use Rattle.dsm_runner.proofs.Gathers.{first_shape, shape_of, others_are, fewer_are, next_is, machine_is, first_given, given_more}
+use Rattle.dsm_runner.proofs.Fronts.{all_are, front_is, others_are}
+use Rattle.dsm_runner.proofs.Gathers.{first_shape, shape_of, machine_is, first_given, given_more}
 use Rattle.dsm_runner.proofs.close.collect.Goals as goal
 
 pub loop-worker-init : goal.loop-worker-init
@@ -37,7 +38,7 @@ loop-worker-init c =
       table = ap (λ (h : Held). h.table) c.machine.view_is ∙ is.table;
       shape = shape_of s v.given [] v first;
       all = (λ i. ((first i).given ∷ (first i).joined) ++ map given_to rest) ∙ ap (λ g. g ∷ map given_to rest) given ∙ ap (map given_to) (sym all);
-      rest = others_are b ws rest f (length v.joined) all c.requires.workers (ap (λ (x : Sight). length x.joined) first);
+      rest = others_are (IsWorker b) ws rest f 0 (suc (length v.joined)) all (ap (λ (x : Sight). suc (length x.joined)) first) (all_are (IsWorker b) ws c.requires.workers.each);
       count = ap length alone ∙ ap (λ (x : Sight). suc (length x.joined)) (sym first);
       machines = subst (λ (l : List (List Given)). AreGiven s l ms) (λ i. (sym first i).given ∷ (sym first i).joined) (first_given s v.given w.machine ms alone (machine_is s 0 w c.machine.invariant setup number));
     }
@@ -50,7 +51,7 @@ join_seat-requires c =
     let b : Board = record { table = c.args.table.now.shared.table_id; setup = s } in
     let v : Sight = c.loop-worker.seat.me.0 in
     let alone = c.worker.invariant.alone in
-    let is = next_is b (into_iter_items c.loop-worker.worker-iterator) (into_iter_items c.next.new.self) c.in-Some.worker (suc (length v.joined)) c.in-Some.ensures.steps.0 i.rest in (
+    let is = front_is (IsWorker b) (into_iter_items c.loop-worker.worker-iterator) (into_iter_items c.next.new.self) c.in-Some.worker (suc (length v.joined)) c.in-Some.ensures.steps.0 i.rest in (
       i.table,
       ap (λ (h : Held). h.table) c.worker.view_is ∙ is.table,
       ap (λ m. m.1) alone,
@@ -73,7 +74,7 @@ loop-worker-preserved c =
     let ms : List Machine = c.push-in-loop-worker.new.self.items in
     let n : ℕ = suc (length v.joined) in
     let left : old ≡ f ∷ rest = c.in-Some.ensures.steps.0 in
-    let is : IsWorker b n f = next_is b old rest f n left i.rest in
+    let is : IsWorker b n f = front_is (IsWorker b) old rest f n left i.rest in
     let setup : u.setup ≡ s = ap (λ (h : Held). h.setup) c.worker.view_is ∙ is.setup in
     let number : u.number ≡ n = ap (λ (h : Held). h.number) c.worker.view_is ∙ is.number in
     let given : u.given ≡ given_to f = ap (λ (h : Held). h.given) c.worker.view_is in
@@ -88,7 +89,7 @@ loop-worker-preserved c =
           ∙ ap (λ g. v.given ∷ (v.joined ++ (g ∷ map given_to rest))) given
           ∙ ap (λ l. (v.given ∷ v.joined) ++ map given_to l) (sym left)
           ∙ i.all;
-      rest = fewer_are b old rest f n (suc (length v'.joined)) left i.rest (omega (arith, longer));
+      rest = others_are (IsWorker b) old rest f n (suc (length v'.joined)) left (omega (arith, longer)) i.rest;
       count = ap length c.in_ok-push-2.ensures.items ∙ length_push c.loop-worker.machines.items w.machine ∙ omega (arith, i.count, longer);
       machines =
           subst (λ (l : List (List Given)). AreGiven s l ms) (λ q. (sym more q).given ∷ (sym more q).joined)

@@ -9,10 +9,12 @@ use Rattle.dsm_machine.specs.declared.machine.Machine.{Machine}
 use Rattle.dsm_protocol.specs.Jobs.{first_act, held_turn}
 use Rattle.dsm_protocol.specs.Processors.{Processor, ending, wanting, after_answer}
 use Rattle.dsm_protocol.specs.Own.{sizes_in}
-use Rattle.dsm_machine.specs.Machines.{who, processor_in}
+use Rattle.dsm_machine.specs.Machines.{who, processor_in, spare_of}
+use Rattle.dsm_core.specs.Room.{rooms}
 use Rattle.dsm_core.specs.States.{setup_in, cluster_in}
 use Rattle.dsm_core.proofs.Stepping.{ended_some, none_is, at_processor, put_back, who_is, still_numbered, stepped, step_event}
 use Rattle.dsm_core.proofs.Handing.{reached_stepped}
+use Rattle.dsm_core.proofs.Rooms.{uses_none, uses_one}
 use Rattle.dsm_core.proofs.state.State.step.Goals as goal
 
 pub returns-then-is_some-clause-step : goal.returns-then-is_some-clause-step
@@ -23,6 +25,9 @@ returns-then-is_some-clause-step c =
     let at = at_processor s c.args.p m (omega arith) c.index_mut-machine.ensures.value f in
     let over = ended_some (f m).todo (subst IsSome (c.end.ensures.begun c.args.program.now.code) (sym c.is_some.ensures ∙ c.if-is_some.true)) in
     (rw at over, λ i. record { words = s.words.items; processors = put_back s c.args.p m (omega arith) c.index_mut-machine.ensures.value f i })
+
+pub returns-then-is_some-clause-room : goal.returns-then-is_some-clause-room
+returns-then-is_some-clause-room c = uses_none c.args.p (rooms c.args.self.now) _ (put_back c.args.self.now c.args.p c.index_mut-machine.result.now (omega arith) c.index_mut-machine.ensures.value spare_of)
 
 pub act-requires-clause-words : goal.act-requires-clause-words
 act-requires-clause-words c =
@@ -81,3 +86,8 @@ returns-clause-reached c =
     let s = c.args.self.now in
     let program = c.args.program.now in
     λ h. reached_stepped (setup_in s program) (cluster_in s program.code) _ c.args.p _ (returns-clause-step c) h
+
+pub returns-clause-room : goal.returns-clause-room
+returns-clause-room c =
+    let s = c.args.self.now in
+    uses_one s.machines.items c.args.p c.index_mut-machine.result.now c.act.new.machine (omega arith) c.index_mut-machine.ensures.value (omega (arith, c.starves-starved.ensures.kept, c.act.ensures.spends))

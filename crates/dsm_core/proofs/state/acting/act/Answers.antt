@@ -17,3 +17,6 @@ returns-clause-event c =
     let code = c.args.code.now in
     c.after.ensures.event
     ∙ ap (after_answer (who m) code (processor_in m code)) (c.apply-got.ensures.answer ∙ ap (answer_of c.args.words.now) (op_is _ _ c.in-Some.op c.in-Some.ensures.op))
+
+pub returns-clause-spends : goal.returns-clause-spends
+returns-clause-spends c = c.after.ensures.spends.one

@@ -1,5 +1,0 @@
-use Rattle.dsm_core.specs.States.{IsFor}
-use Rattle.dsm_core.proofs.state.tests.steps.Given as goal
-
-abbrev pub invariant-loop-p : goal.invariant-loop-p
-invariant-loop-p over l = IsFor l.state l.program

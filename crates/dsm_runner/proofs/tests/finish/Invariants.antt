@@ -1,9 +1,0 @@
-use Rattle.dsm_runner.specs.Workers.{IsWorker}
-use Rattle.dsm_runner.proofs.tests.finish.Given as goal
-
-abbrev pub invariant-loop : goal.invariant-loop
-invariant-loop g l = record {
-  can : (goal.iterator-loop g).can_next l.iterator';
-  finite : (goal.iterator-loop g).is_finite l.iterator';
-  worker : IsWorker l.shared l.number l.worker;
-}
