@@ -28,7 +28,7 @@ some_of f (t ∷ ts) = some_in f t || some_of f ts
 -- neither of two
 neither : (a b : Bool) → (a || b) ≡ false → (a ≡ false) × (b ≡ false)
 neither true b h = absurd (cc h)
-neither false b h = (refl , h)
+neither false b h = (refl, h)
 
 none_in : (f : Entry → Bool) (t : List Entry) → some_in f t ≡ false → (i : ℕ) (e : Entry) → slice_get t i ≡ Some e → f e ≡ false
 none_in f [] none i e h = absurd (cc h)
