@@ -66,6 +66,13 @@ fn reported(
     Ok(text(alloc, t, &program, &ran, traced)?)
 }
 
+// The report of a processor that is alone, did nothing and ended so.
+fn reported_idle(alloc: Global, end: End) -> Result<Vec<u8>, Fail> {
+    let traces = vec![in alloc; Trace::new(alloc)]?;
+    let t = Topology::new(1, 1)?;
+    reported(alloc, t, traces, end, 1, &[0], false)
+}
+
 // Only what was printed has lines, in order, and each word of the page is there.
 #[test]
 fn reports_what_was_printed(rt: HostRuntime) -> Result<(), Fail> {
@@ -95,9 +102,7 @@ fn reports_each_end(rt: HostRuntime) -> Result<(), Fail> {
         (End::NoMemory, "nomemory"),
     ];
     for (end, words) in table {
-        let traces = vec![in rt.alloc(); Trace::new(rt.alloc())]?;
-        let t = Topology::new(1, 1)?;
-        let got = reported(rt.alloc(), t, traces, end, 1, &[0], false)?;
+        let got = reported_idle(rt.alloc(), end)?;
         let want = format!(in rt.alloc(); "cashmere 1x1\nend 0 {words}\npage 0 0\n{COUNTED}")?;
         assert_eq!(rt; got.as_slice(), want.as_bytes());
     }
