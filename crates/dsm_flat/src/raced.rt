@@ -52,7 +52,10 @@ fn note(list: &mut Vec<Latest>, v: Visit, clock: &Clock) -> Result<(), NoMemory>
 fn races(alloc: Global, list: &[Latest]) -> Result<Vec<bool>, NoMemory>
     ensures { IfOk result (λ races. races.items ≡ map (λ l. l.races) list.now) }
 {
-    let races = list.iter().map(|l| l.races).collect(alloc)?;
+    let mut races = Vec::new(alloc);
+    for latest in list {
+        races.push(latest.races)?;
+    }
     Ok(races)
 }
 
