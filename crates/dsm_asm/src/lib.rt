@@ -13,5 +13,3 @@ mod labels;
 mod operands;
 mod said;
 mod settings;
-#[cfg(test)]
-mod tests;

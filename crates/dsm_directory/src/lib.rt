@@ -10,6 +10,4 @@ pub mod my_dir;
 pub mod register;
 pub mod row;
 pub mod sharers;
-#[cfg(test)]
-mod tests;
 pub mod withdraw;

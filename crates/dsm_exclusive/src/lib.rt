@@ -5,5 +5,3 @@ pub mod breaking;
 pub mod enter;
 pub mod law;
 pub mod nle;
-#[cfg(test)]
-mod tests;

@@ -3,5 +3,3 @@
 
 pub mod access;
 pub mod mapping;
-#[cfg(test)]
-mod tests;

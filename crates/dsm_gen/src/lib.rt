@@ -5,5 +5,3 @@ pub mod generating;
 mod instructions;
 pub mod numbers;
 mod parts;
-#[cfg(test)]
-mod tests;

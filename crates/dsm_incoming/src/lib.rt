@@ -4,5 +4,3 @@
 pub mod law;
 pub mod merge;
 pub mod overwrite;
-#[cfg(test)]
-mod tests;

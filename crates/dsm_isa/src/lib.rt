@@ -6,5 +6,3 @@ pub mod instr;
 pub mod program;
 pub mod reg;
 pub mod shape;
-#[cfg(test)]
-mod tests;

@@ -7,5 +7,3 @@ mod scanning;
 pub mod spans;
 pub mod spelling;
 pub mod splitting;
-#[cfg(test)]
-mod tests;

@@ -6,5 +6,3 @@ pub mod laws;
 pub mod lines;
 pub mod listing;
 mod targets;
-#[cfg(test)]
-mod tests;

@@ -8,5 +8,3 @@ pub mod reader;
 pub mod run;
 pub mod setting;
 pub mod stand;
-#[cfg(test)]
-mod tests;

@@ -6,5 +6,3 @@ pub mod law;
 pub mod own;
 pub mod post;
 pub mod stale;
-#[cfg(test)]
-mod tests;

@@ -4,5 +4,3 @@
 pub mod flush;
 pub mod last;
 pub mod law;
-#[cfg(test)]
-mod tests;

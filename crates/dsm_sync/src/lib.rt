@@ -7,6 +7,4 @@ pub mod got;
 pub mod lock;
 pub mod look;
 pub mod set;
-#[cfg(test)]
-mod tests;
 pub mod unlock;

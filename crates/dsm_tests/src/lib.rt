@@ -1,4 +1,4 @@
-// Tests of the upper crates. They stand here because the gate proves a crate with tests twice.
+// Tests of the top call and of threads. They stand here because the gate proves a crate with tests twice.
 #![tactic(auto)]
 
 #[cfg(test)]
@@ -16,39 +16,19 @@ mod counts;
 #[cfg(test)]
 mod cruel;
 #[cfg(test)]
-mod entries;
-#[cfg(test)]
 mod every_instruction;
 #[cfg(test)]
 mod generated;
 #[cfg(test)]
 mod held;
 #[cfg(test)]
-mod judging;
-#[cfg(test)]
 mod listing;
-#[cfg(test)]
-mod machines;
-#[cfg(test)]
-mod pages_after;
 #[cfg(test)]
 mod plans;
 #[cfg(test)]
-mod programs;
-#[cfg(test)]
-mod racing;
-#[cfg(test)]
 mod refusals;
 #[cfg(test)]
-mod reports;
-#[cfg(test)]
-mod room;
-#[cfg(test)]
-mod schedules;
-#[cfg(test)]
 mod sizes;
-#[cfg(test)]
-mod states;
 #[cfg(test)]
 mod streams;
 #[cfg(test)]

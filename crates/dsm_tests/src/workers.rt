@@ -3,7 +3,7 @@ ghost use Rattle.std.specs.Prelude.{◌≡◌};
 ghost use Rattle.dsm_runner.specs.Workers.{IsWorker, AreWorkers};
 
 use crate::asking::printed;
-use crate::programs::{program, register};
+use dsm_samples::programs::{program, register};
 use crate::texts::NEIGHBOURS;
 use dsm_core::state::Step;
 use dsm_flat::judge::judge;

@@ -5,5 +5,3 @@ pub mod drop;
 pub mod has;
 pub mod law;
 pub mod make;
-#[cfg(test)]
-mod tests;

@@ -1,0 +1,5 @@
+// What the crates of tests write their cases with.
+#![tactic(auto)]
+
+pub mod entries;
+pub mod programs;

@@ -1,6 +1,0 @@
-use Rattle.std.proofs.Common.{refl}
-use Rattle.dsm_tests.proofs.Silence.{without_signals}
-use Rattle.dsm_tests.proofs.reports.reports_passes.Goals as goal
-
-pub reported-requires-clause-no_circle : goal.reported-requires-clause-no_circle
-reported-requires-clause-no_circle g c = rw (c.in_ok-traces.ensures.items, c.in_ok-trace.ensures, c.pass.ensures, c.pass-2.ensures, c.pass-3.ensures, c.pass-4.ensures) (without_signals _ refl)
