@@ -3,7 +3,6 @@ ghost use Rattle.std.specs.Prelude.{◌≡◌};
 ghost use Rattle.dsm_runner.specs.Workers.{IsWorker, AreWorkers};
 
 use crate::asking::printed;
-use dsm_samples::programs::{program, register};
 use crate::texts::NEIGHBOURS;
 use dsm_core::state::Step;
 use dsm_flat::judge::judge;
@@ -18,6 +17,7 @@ use dsm_runner::gate::{Gate, OpenGate};
 use dsm_runner::run::run;
 use dsm_runner::shared::Shared;
 use dsm_runner::worker::Worker;
+use dsm_samples::programs::{program, register};
 use dsm_top::reading::read_program;
 use dsm_words::topology::Topology;
 use std::alloc::Global;
