@@ -1,7 +1,6 @@
 // What the events of a schedule leave in the pages.
 ghost use Rattle.std.specs.Prelude.{◌<◌, All, IfOk};
 
-use crate::adding::storing;
 use dsm_isa::instr::Instr;
 use dsm_isa::shape::Shape;
 use dsm_local::end::End;
@@ -12,36 +11,24 @@ use dsm_words::topology::Topology;
 use std::alloc::Global;
 use std::test::Fail;
 
-// One processor stores 7 to a word, loads and prints it. It halts with its thirtieth event, behind which its number is
-// left out.
-#[test]
-fn leaves_out_an_ended_processor(rt: HostRuntime) -> Result<(), Fail> {
-    let shape = Shape::new(1, 4, 0, 0, 0).ok_or("no shape")?;
-    let program = program(rt.alloc(), shape, &[], &storing()?)?;
-    let t = Topology::new(1, 1)?;
-    let limits = Limits {
-        turns: 10,
-        looks: None,
-    };
-    let early = pages_after(rt.alloc(), &program, t, limits, &[0; 29])?;
-    assert!(rt; !early.ended());
-    let state = pages_after(rt.alloc(), &program, t, limits, &[0; 30])?;
-    assert!(rt; state.ended());
-    let late = pages_after(rt.alloc(), &program, t, limits, &[0; 31])?;
-    assert_eq!(rt; late.end(0), Some(End::Halted));
-    let ran = state.into_ran(rt.alloc())?;
-    assert_eq!(rt; ran.pages.as_slice(), [0, 0, 7, 0].as_slice());
-    Ok(())
+/// Whose event is event `k`: five of processor 0, 26 of processor 1, and then one of each in turn.
+fn overtaking_at(k: u32) -> u32
+    ensures { result < 2 }
+{
+    match k {
+        0..=4 => 0,
+        5..=30 => 1,
+        _ => u32::from(k % 2 == 0),
+    }
 }
 
-/// Five events of processor 0, 26 of processor 1, and then 400 of each in turn.
+/// These events, 400 of each in turn.
 fn overtaking(alloc: Global) -> Result<Vec<u32>, Fail>
     ensures { IfOk result (λ list. All (λ p. p < 2) list.items) }
 {
-    let mut list = Vec::from_slice(alloc, &[0; 5])?;
-    list.extend_from_slice(&[1; 26])?;
-    for _ in 0..400 {
-        list.extend_from_slice(&[0, 1])?;
+    let mut list = Vec::new(alloc);
+    for k in 0..831 {
+        list.push(overtaking_at(k))?;
     }
     Ok(list)
 }

@@ -18,23 +18,21 @@ use dsm_words::topology::Topology;
 use std::alloc::Global;
 use std::test::Fail;
 
-// Each count another number.
-fn one_to_twelve() -> Counts {
-    Counts {
-        read_faults: 1,
-        write_faults: 2,
-        overwrites: 3,
-        merges: 4,
-        twins: 5,
-        flushes: 6,
-        early: 7,
-        notices: 8,
-        unmaps: 9,
-        enters: 10,
-        breaks: 11,
-        unready: 12,
-    }
-}
+/// Each count another number.
+const ONE_TO_TWELVE: Counts = Counts {
+    read_faults: 1,
+    write_faults: 2,
+    overwrites: 3,
+    merges: 4,
+    twins: 5,
+    flushes: 6,
+    early: 7,
+    notices: 8,
+    unmaps: 9,
+    enters: 10,
+    breaks: 11,
+    unready: 12,
+};
 
 /// Their lines.
 const COUNTED: &str =
@@ -61,7 +59,7 @@ fn reported(
         ends: [Some(end)].repeat(alloc, traces.len())?,
         traces,
         pages: Vec::from_slice(alloc, words)?,
-        counts: one_to_twelve(),
+        counts: ONE_TO_TWELVE,
     };
     Ok(text(alloc, t, &program, &ran, traced)?)
 }

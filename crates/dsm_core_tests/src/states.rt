@@ -19,11 +19,6 @@ const LIMITS: Limits = Limits {
     looks: Some(100),
 };
 
-/// So many pages of one word, with one lock, one barrier and one flag.
-fn shape(pages: u32) -> Result<Shape, Fail> {
-    Ok(Shape::new(pages, 1, 1, 1, 1).ok_or("no shape")?)
-}
-
 /// One event of each of these processors.
 fn steps(rt: &impl Abort, state: &mut State, program: &Program, list: &[u32])
     requires { IsFor state.old program.now }
@@ -40,7 +35,8 @@ fn steps(rt: &impl Abort, state: &mut State, program: &Program, list: &[u32])
 // store; the page is exclusive until the closing work breaks it.
 #[test]
 fn locks_in_turn(rt: HostRuntime) -> Result<(), Fail> {
-    let program = program(rt.alloc(), shape(1)?, &[], &adding()?)?;
+    let shape = Shape::new(1, 1, 1, 1, 1).ok_or("no shape")?;
+    let program = program(rt.alloc(), shape, &[], &adding()?)?;
     let mut state = State::start(rt.alloc(), &program, Topology::new(1, 2)?, LIMITS)?;
     steps(&rt, &mut state, &program, &[0, 1, 0, 1, 0, 1, 0, 1]);
     steps(&rt, &mut state, &program, &[0; 35]);
@@ -78,7 +74,8 @@ fn locks_in_turn(rt: HostRuntime) -> Result<(), Fail> {
 // words, are 1. The home of page 0 is then node 1, which has another value there; page 1 has no home.
 #[test]
 fn starts_at_every_node(rt: HostRuntime) -> Result<(), Fail> {
-    let program = program(rt.alloc(), shape(2)?, &[(0, 5), (1, 6)], &[Instr::Halt])?;
+    let shape = Shape::new(2, 1, 1, 1, 1).ok_or("no shape")?;
+    let program = program(rt.alloc(), shape, &[(0, 5), (1, 6)], &[Instr::Halt])?;
     let state = State::start(rt.alloc(), &program, Topology::new(2, 1)?, LIMITS)?;
     let mut words = [0; 55];
     words[1] = 5;

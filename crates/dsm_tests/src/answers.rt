@@ -190,23 +190,6 @@ fn traces_a_run(rt: HostRuntime) -> Result<(), Fail> {
     Ok(())
 }
 
-// A read that fails, a write that fails, and a finish that fails.
-#[test]
-fn faults(rt: HostRuntime) -> Result<(), Fail> {
-    let (status, written) = answer(rt.alloc(), SIM, FIRST, (10, &[2]), (4096, &[]))?;
-    assert_eq!(rt; status, 4);
-    assert!(rt; written.is_empty());
-    let (status, written) = answer(rt.alloc(), SIM, FIRST, (10, &[]), (5, &[2]))?;
-    assert_eq!(rt; status, 5);
-    assert_eq!(rt; written.as_slice(), b"cashm".as_slice());
-    let (status, written) = answer(rt.alloc(), SIM, FIRST, (10, &[]), (4096, &[2]))?;
-    assert_eq!(rt; status, 5);
-    assert!(rt;
-        written.as_slice().strip_prefix(FIRST_REPORT.as_bytes()) == Some(FIRST_COUNTS.as_bytes())
-    );
-    Ok(())
-}
-
 // Where each has a word of its own, all words are ordered. Where two store to one word before they meet, their stores race.
 #[test]
 fn judges_runs(rt: HostRuntime) -> Result<(), Fail> {

@@ -39,6 +39,19 @@ pub(crate) fn sink(alloc: Global, chunk: usize, fail: &[u64]) -> Result<MemSink,
     }
 }
 
+/// How the top call ended, for words that ask for no threads.
+fn called(
+    alloc: Global,
+    line: &[String],
+    from: &mut MemSource,
+    to: &mut MemSink,
+) -> Result<Done, Fail> {
+    if needs_threads(line) {
+        return Err("these words ask for threads".into());
+    }
+    Ok(still(alloc, line, from, to))
+}
+
 /// How the top call ended and the bytes written, for words that ask for no threads, a source that fails at these reads and gives so many bytes a
 /// read, and a sink that fails at these calls and takes so many bytes a write.
 pub(crate) fn asked(
@@ -52,12 +65,9 @@ pub(crate) fn asked(
     requires sink { 0 < sink.0 }
 {
     let line = line(alloc, words)?;
-    if needs_threads(line.as_slice()) {
-        return Err("these words ask for threads".into());
-    }
     let mut from = MemSource::new(text.to_vec(alloc)?, source.0, source.1.to_vec(alloc)?);
     let mut to = self::sink(alloc, sink.0, sink.1)?;
-    let done = still(alloc, line.as_slice(), &mut from, &mut to);
+    let done = called(alloc, line.as_slice(), &mut from, &mut to)?;
     Ok((done, to.bytes().to_vec(alloc)?))
 }
 

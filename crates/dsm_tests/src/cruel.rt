@@ -5,6 +5,7 @@ use crate::texts::{AGAIN, ALONE, BACK, BESIDE, COALESCED, COUNTER, FIRST, NEIGHB
 use dsm_core::ran::Ran;
 use dsm_entry::entry::Entry;
 use dsm_io::MemSource;
+use dsm_isa::program::Program;
 use dsm_protocol::limits::Limits;
 use dsm_top::reading::read_program;
 use dsm_twoway::after::after;
@@ -177,11 +178,8 @@ fn rounds(alloc: Global, cluster: (u32, u32)) -> Result<Vec<u32>, Fail> {
     Ok(turn.repeat(alloc, ROUNDS)?)
 }
 
-/// What the program leaves behind a schedule.
-fn left_behind(alloc: Global, text: &[u8], cluster: (u32, u32), list: &[u32]) -> Result<Ran, Fail> {
-    let mut source = MemSource::new(text.to_vec(alloc)?, 4096, Vec::new(alloc));
-    let program = read_program(alloc, &mut source)?;
-    let t = Topology::new(cluster.0, cluster.1)?;
+/// The state behind a schedule as what is left.
+fn left_by(alloc: Global, program: &Program, t: Topology, list: &[u32]) -> Result<Ran, Fail> {
     let all = t.all();
     if !list.iter().all(|p| *p < all) {
         return Err(Fail::from("no such processor"));
@@ -190,8 +188,15 @@ fn left_behind(alloc: Global, text: &[u8], cluster: (u32, u32), list: &[u32]) ->
         turns: 200_000,
         looks: None,
     };
-    let state = after(alloc, &program, t, limits, list)?;
+    let state = after(alloc, program, t, limits, list)?;
     Ok(state.into_ran(alloc)?)
+}
+
+/// What the program leaves behind a schedule.
+fn left_behind(alloc: Global, text: &[u8], cluster: (u32, u32), list: &[u32]) -> Result<Ran, Fail> {
+    let mut source = MemSource::new(text.to_vec(alloc)?, 4096, Vec::new(alloc));
+    let program = read_program(alloc, &mut source)?;
+    left_by(alloc, &program, Topology::new(cluster.0, cluster.1)?, list)
 }
 
 /// The last thing that a processor did.

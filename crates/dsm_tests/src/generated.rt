@@ -97,15 +97,3 @@ fn limits_end_a_generated_program(rt: HostRuntime) -> Result<(), Fail> {
     );
     Ok(())
 }
-
-// Nothing is read: neither a text that is refused nor a read that fails is met. A write that fails is.
-#[test]
-fn generating_reads_nothing(rt: HostRuntime) -> Result<(), Fail> {
-    let words = ["gen", "seed=1", "1x1", "steps=1"];
-    let unread = answer(rt.alloc(), &words, b"foo", (1, &[1]), (4096, &[]))?;
-    assert_eq!(rt; unread.0, 1);
-    let unwritten = answer(rt.alloc(), &words, b"", (1, &[]), (4, &[2]))?;
-    assert_eq!(rt; unwritten.0, 5);
-    assert_eq!(rt; unwritten.1.as_slice(), b"gen ".as_slice());
-    Ok(())
-}

@@ -22,8 +22,6 @@ mod generated;
 #[cfg(test)]
 mod held;
 #[cfg(test)]
-mod listing;
-#[cfg(test)]
 mod plans;
 #[cfg(test)]
 mod refusals;

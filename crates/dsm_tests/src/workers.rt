@@ -4,6 +4,7 @@ ghost use Rattle.dsm_runner.specs.Workers.{IsWorker, AreWorkers};
 
 use crate::asking::printed;
 use crate::texts::NEIGHBOURS;
+use dsm_core::ran::Ran;
 use dsm_core::state::Step;
 use dsm_flat::judge::judge;
 use dsm_flat::verdict::Verdict;
@@ -152,15 +153,24 @@ fn steps_from_other_threads(rt: HostRuntime) -> Result<(), Fail> {
     Ok(())
 }
 
+// What the program of a text leaves whose processors are stepped by threads of the test, on two nodes of two processors.
+fn left_by_threads<R: Threads + Wait + Sync>(
+    rt: &R,
+    alloc: Global,
+    text: &[u8],
+) -> Result<Ran, Fail> {
+    let mut source = MemSource::new(text.to_vec(alloc)?, 4096, Vec::new(alloc));
+    let program = read_program(alloc, &mut source)?;
+    let t = Topology::new(2, 2)?;
+    let (shared, mut workers) = Shared::open(alloc, &program, t, LIMITS)?;
+    in_threads(rt, &shared, &program, workers.as_mut_slice());
+    Ok(shared.close(alloc, workers)?)
+}
+
 // Each prints what its neighbour stored to its own word of their page, and that word is ordered.
 #[test]
 fn neighbours_step_from_other_threads(rt: HostRuntime) -> Result<(), Fail> {
-    let mut source = MemSource::new(NEIGHBOURS.to_vec(rt.alloc())?, 4096, Vec::new(rt.alloc()));
-    let program = read_program(rt.alloc(), &mut source)?;
-    let t = Topology::new(2, 2)?;
-    let (shared, mut workers) = Shared::open(rt.alloc(), &program, t, LIMITS)?;
-    in_threads(&rt, &shared, &program, workers.as_mut_slice());
-    let ran = shared.close(rt.alloc(), workers)?;
+    let ran = left_by_threads(&rt, rt.alloc(), NEIGHBOURS)?;
     assert!(rt; ran.is_halted());
     assert!(rt; ran.traces.len() == 4);
     for (trace, wanted) in ran.traces.iter().zip(&[101, 102, 103, 100]) {
